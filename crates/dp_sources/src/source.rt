@@ -73,6 +73,11 @@ impl Sources {
         self.files.iter().find(|file| file.name.as_str() == name)
     }
 
+    /// The file of this name, if it was not read.
+    pub(crate) fn unread(&self, name: &str) -> Option<Unread<'_>> {
+        self.find(name)?.unread()
+    }
+
     /// The bytes of the file of this name, if it was read.
     pub fn get(&self, name: &str) -> Option<&[u8]>
         ensures { option_map (λ bytes. bytes.now) result ≡ files_of self.now name.now }

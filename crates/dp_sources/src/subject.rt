@@ -103,17 +103,25 @@ impl<'a> Subject<'a> {
     }
 
     /// The file of a node that was not read, if one was not.
-    pub(crate) fn unread(self, node: Entry, sources: &'a Sources) -> Option<Unread<'a>> {
+    pub(crate) fn unread(self, node: Entry, sources: &Sources) -> Option<Unread<'_>> {
         let asked = self.node(node)?;
-        match sources.find(asked.program)?.unread() {
+        match sources.unread(asked.program) {
             Some(file) => Some(file),
-            None => sources.find(asked.cert?)?.unread(),
+            None => sources.unread(asked.cert?),
+        }
+    }
+
+    /// The folder of the pipeline file, if that has the file of a node that was not read.
+    pub(crate) fn folder_beside(self, node: Entry, sources: &Sources) -> Option<&'a str> {
+        match (self, self.unread(node, sources)?.error) {
+            (Subject::Pipeline { file, .. }, ReadError::IsBeside(_)) => folder_of(file),
+            _ => None,
         }
     }
 }
 
 /// The folder of a file, as its name has it.
-pub(crate) fn folder_of(file: &str) -> Option<&str> {
+fn folder_of(file: &str) -> Option<&str> {
     let (folder, _name) = file.rsplit_once('/')?;
     Some(if folder.is_empty() { "/" } else { folder })
 }
