@@ -494,6 +494,12 @@ class Layout(unittest.TestCase):
             self.assertEqual(sizes, sorted(sizes, reverse=True), rule)
             self.assertLess(sizes[-1], sizes[1], rule)
 
+    def test_the_length_is_asked_before_what_is_behind_it(self) -> None:
+        rules = "".join(f"if ipv4.src in 10.{k}.0.0/16 and tcp.dport == {k} {{ drop }}\n" for k in range(5)) + "send port"
+        for cure in ("need ipv4.vhl == 0x45\n", "if ipv4 { need ipv4.vhl == 0x45 }\n"):
+            self.assertLess(count(cure + rules), count(rules) // 2 + 1)
+            self.assertEqual(sent(cure + rules, *(tcp(2, 3, options, dst="192.0.2.7") for options in (b"", bytes(4))))[0], [tcp(2, 3)])
+
     def test_what_changes_nothing_takes_no_instruction(self) -> None:
         self.assertEqual(count("new h from 0\ncut h 0\ncut 0\ntruncate h 4096\nsend port"), count("new h from 0\nsend port"))
 

@@ -59,8 +59,12 @@ def block(ways: list[Way], text: Block, after: Join[Way]) -> None:
         # Headers that the conditions of at least two statements in a row use are looked for before the first.
         if isinstance(it, (If, Need)) and not early:
             early = ways[0].unit.used_in_row(text, number)
-        later = end.needs | ways[0].unit.needs_of(text, number)
-        ways = [s for way in ways for s in with_early(way, it, early, later)]
+        unit, follows = ways[0].unit, text[number + 1 : number + 2]
+        # What this statement asks of the length of a header, and the next one does not, is better known before headers behind it are looked for.
+        asked = unit.lengths_asked(it) - unit.lengths_asked(follows) if isinstance(it, (If, Need)) and follows else set[str]()
+        wanted = Counter({name: early[name] for name in early if not asked or asked.isdisjoint(unit.headers.looked_for(name) - {name})})
+        later = end.needs | unit.needs_of(text, number)
+        ways = [s for way in ways for s in with_early(way, it, wanted, later)]
         early = early - ways[0].unit.used_in(it) if isinstance(it, (If, Need)) else Counter()
         ready = Join[Way](end.needs | ways[0].unit.needs_of(text, number + 1))
         for way in ways:

@@ -84,6 +84,11 @@ class Unit:
             found += self.used_in(it)
         return found
 
+    def lengths_asked(self, it: Any) -> set[str]:
+        """The headers with a field in a part of the text that has bits of those that give their length."""
+        asked = ((self.headers[part.header], part.name) for part in parts(it) if isinstance(part, Field))
+        return {header.name for header, name in asked if header.bits and header.fields[name].meets(Span(0, header.bits))}
+
     @cached_property
     def written(self) -> set[Field]:
         """The fields that the program assigns to, and the checksums that it updates."""
