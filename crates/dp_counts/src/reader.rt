@@ -34,19 +34,6 @@ pub enum CountsError {
     NoNode,
 }
 
-/// An element of a list, in the path of a member: `nodes[1].`; nothing where there is none.
-#[derive(Clone, Copy)]
-struct Element<'a>(&'a str, Option<usize>);
-
-impl fmt::Display for Element<'_> {
-    fn fmt<W: fmt::Write>(&self, f: &mut fmt::Formatter<W>) -> fmt::Result {
-        match self.1 {
-            Some(index) => write!(f, "{}[{index}].", self.0),
-            None => Ok(()),
-        }
-    }
-}
-
 impl fmt::Display for CountsError {
     fn fmt<W: fmt::Write>(&self, f: &mut fmt::Formatter<W>) -> fmt::Result {
         match *self {
@@ -60,9 +47,13 @@ impl fmt::Display for CountsError {
                 name,
                 wanted,
             } => {
-                let node = Element("counts.nodes", node);
-                let instruction = Element("instructions", instruction);
-                write!(f, "{node}{instruction}{name} is not {wanted}")
+                if let Some(node) = node {
+                    write!(f, "counts.nodes[{node}].")?;
+                }
+                if let Some(instruction) = instruction {
+                    write!(f, "instructions[{instruction}].")?;
+                }
+                write!(f, "{name} is not {wanted}")
             }
             CountsError::NoNode => f.write_str("it has no counts of this node"),
         }
