@@ -1,9 +1,9 @@
 //! The state of a machine between two instructions, and what one of them changed.
 
-use crate::summary::{after, byte_at};
+use crate::summary::after;
 use dp_console::Text;
 use dp_engine::{PacketShape, SegmentView, View};
-use dp_model::{Instr, NumberRegister, PacketRegister};
+use dp_model::{Instr, NumberRegister, PacketRegister, Width};
 
 /// The maximum number of bytes of a segment that are shown.
 const SHOWN: usize = 16;
@@ -25,33 +25,17 @@ pub struct Snapshot {
     calls: u64,
 }
 
-/// The first bytes, followed by zeros if they are fewer.
-fn head_of(bytes: &[u8]) -> [u8; SHOWN] {
-    let mut head = [0; SHOWN];
-    for k in 0..SHOWN {
-        head[k] = byte_at(bytes, k);
-    }
-    head
-}
-
-/// The bytes of the first segment of the packet in a register; none without a packet.
-pub fn first_bytes<'a>(view: &View<'a>, p: PacketRegister) -> &'a [u8] {
-    match view.segment(p, 0) {
-        Some(segment) => segment.bytes,
-        None => &[],
-    }
-}
-
 /// The packet in a register, if there is one.
 fn look_at(view: &View<'_>, p: PacketRegister) -> Option<Look> {
     let shape = view.packet(p)?;
-    let mut refs = 0u32;
-    for index in 0..shape.segments {
-        if let Some(segment) = view.segment(p, index) {
-            refs = refs.saturating_add(segment.refs);
-        }
+    let (mut refs, mut head) = (0u32, [0; SHOWN]);
+    for (to, from) in head.iter_mut().zip(view.segment(p, 0)?.bytes) {
+        *to = *from;
     }
-    Some((shape, refs, head_of(first_bytes(view, p))))
+    for index in 0..shape.segments {
+        refs = refs.saturating_add(view.segment(p, index)?.refs);
+    }
+    Some((shape, refs, head))
 }
 
 impl Snapshot {
@@ -71,12 +55,9 @@ impl Snapshot {
 
     /// Adds the result of the last allocation call, if there was one: it was made if a register has a new packet.
     pub fn say_call(&self, before: &Snapshot, out: &mut Text) {
-        let (call, mut answer) = (self.calls, "refused");
-        for k in 0..8usize {
-            if self.packets[k].is_some() && before.packets[k].is_none() {
-                answer = "made";
-            }
-        }
+        let mut packets = self.packets.iter().zip(&before.packets);
+        let is_made = packets.any(|(now, before)| now.is_some() && before.is_none());
+        let (call, answer) = (self.calls, if is_made { "made" } else { "refused" });
         if call > before.calls {
             out.say(format_args!("      allocation call {call}: {answer}\n"));
         }
@@ -149,7 +130,7 @@ fn say_count(count: usize, unit: &str, out: &mut Text) {
 
 /// Adds the first bytes, a blank before each.
 fn say_bytes(bytes: &[u8], count: usize, out: &mut Text) {
-    for byte in bytes.get(..count).unwrap_or(bytes) {
+    for byte in bytes.iter().take(count) {
         out.say(format_args!(" {byte:02x}"));
     }
 }
@@ -165,19 +146,19 @@ fn say_counts(before: &[u32; 8], now: &[u32; 8], words: (&str, &str, &str), out:
     }
 }
 
-/// Bytes of a packet that an instruction is going to overwrite: their offset, how many they are, and what they were.
+/// Bytes of a packet that an instruction is going to overwrite: their offset, and how many of the eight they are.
 #[derive(Clone, Copy)]
-pub struct BytesBefore(PacketRegister, usize, usize, [u8; SHOWN]);
+pub struct BytesBefore(PacketRegister, usize, usize, [u8; 8]);
 
 /// The bytes that an instruction is going to overwrite, if it is a store.
 pub fn bytes_before(view: &View<'_>, instr: Instr) -> Option<BytesBefore> {
-    let (packet, first, width) = match instr {
+    match instr {
         Instr::Store {
             packet,
             offset,
             width,
             ..
-        } => (packet, u64::from(offset), width),
+        } => bytes_at(view, packet, u64::from(offset), width),
         Instr::StoreX {
             packet,
             index,
@@ -186,23 +167,34 @@ pub fn bytes_before(view: &View<'_>, instr: Instr) -> Option<BytesBefore> {
             ..
         } => {
             let first = view.number(index).wrapping_add(u64::from(offset));
-            (packet, first, width)
+            bytes_at(view, packet, first, width)
         }
-        _ => return None,
-    };
-    let (offset, count) = (first as usize, usize::from(width.bytes()));
-    let bytes = head_of(after(first_bytes(view, packet), offset));
-    Some(BytesBefore(packet, offset, count, bytes))
+        _ => None,
+    }
+}
+
+/// The bytes of a packet's first segment at an offset, if it has that many.
+fn bytes_at(view: &View<'_>, p: PacketRegister, offset: u64, width: Width) -> Option<BytesBefore> {
+    let (offset, count) = (offset as usize, usize::from(width.bytes()));
+    let mut bytes = [0; 8];
+    let rest = view.segment(p, 0)?.bytes.get(offset..)?;
+    for (to, from) in bytes.iter_mut().zip(rest) {
+        *to = *from;
+    }
+    Some(BytesBefore(p, offset, count, bytes))
 }
 
 impl BytesBefore {
     /// Adds the bytes before and after.
     pub fn say(&self, view: &View<'_>, out: &mut Text) {
+        let Some(segment) = view.segment(self.0, 0) else {
+            return;
+        };
         let (k, offset, count) = (self.0.number(), self.1, self.2);
         out.say(format_args!("      p{k} at {offset}:"));
         say_bytes(&self.3, count, out);
         out.say(" ->");
-        say_bytes(after(first_bytes(view, self.0), offset), count, out);
+        say_bytes(after(segment.bytes, offset), count, out);
         out.say("\n");
     }
 }

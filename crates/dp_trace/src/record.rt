@@ -1,6 +1,6 @@
 //! A record of a trace: what is printed of it, as text or as a JSON document.
 
-use crate::changes::{BytesBefore, Snapshot, bytes_before, first_bytes};
+use crate::changes::{BytesBefore, Snapshot, bytes_before};
 use crate::picked::Only;
 use crate::run::Shown;
 use crate::summary::say_summary;
@@ -11,10 +11,9 @@ use dp_model::{Entry, Instr, PacketRegister};
 use dp_pcap::Time;
 use std::alloc::{AllocError, Global};
 
-/// A node run begins, or an instruction with this label and text runs, which are null where it begins. The numbers are the bytes between which the
-/// record's text says what this changed.
+/// A node run begins, or an instruction with this label and text runs. The numbers are the bytes between which the record's text says what this changed.
 #[derive(Clone, Copy)]
-struct Event<'a>(Entry, Item<'a>, Item<'a>, usize, usize);
+struct Event<'a>(Entry, Option<(u16, &'a str)>, usize, usize);
 
 /// A record, from its arrival to the end of its turn.
 #[derive(Drop)]
@@ -95,13 +94,13 @@ impl<'a> Record<'a> {
     }
 
     /// Adds what an event changed. The label `next` is that of the next instruction.
-    fn say_event(&mut self, label: Item<'a>, text: Item<'a>, next: Option<u16>, view: &View<'_>) {
+    fn say_event(&mut self, ran: Option<(u16, &'a str)>, next: Option<u16>, view: &View<'_>) {
         let (now, from) = (Snapshot::of(view), self.text.bytes.len());
         now.say_changes(&self.before, view, &mut self.text);
         if let Some(bytes) = self.next {
             bytes.say(view, &mut self.text);
         }
-        let event = Event(self.node, label, text, from, self.text.bytes.len());
+        let event = Event(self.node, ran, from, self.text.bytes.len());
         self.text.has_failed |= self.events.push(event).is_err();
         self.before = now;
         self.next = match self.instr(next) {
@@ -110,7 +109,7 @@ impl<'a> Record<'a> {
         };
     }
 
-    /// A node run begins; that of a port has the record.
+    /// A node run begins: its registers are empty until its packet comes.
     pub fn begin(&mut self, node: Entry, view: &View<'_>) {
         self.node = node;
         self.before.numbers = [0; 8];
@@ -119,18 +118,19 @@ impl<'a> Record<'a> {
             Entry::Port(port) => usize::from(port),
             Entry::Ring(ring) => self.ports.saturating_add(usize::from(ring)),
         };
-        if matches!(node, Entry::Port(_)) {
-            let bytes = first_bytes(view, PacketRegister::new(0));
+        if matches!(node, Entry::Port(_))
+            && let Some(segment) = view.segment(PacketRegister::new(0), 0)
+        {
             self.text.say("      ");
-            say_summary(&mut self.text, bytes);
+            say_summary(&mut self.text, segment.bytes);
             self.text.say("\n");
             if let Some(pattern) = self.shown.picked.pattern {
-                self.has_bytes = pattern.is_in(bytes);
+                self.has_bytes = pattern.is_in(segment.bytes);
             }
         }
         let name = NodeName(node);
         self.text.say(format_args!("{name}\n"));
-        self.say_event(Item::Null, Item::Null, Some(0), view);
+        self.say_event(None, Some(0), view);
     }
 
     /// The instruction at a label ran.
@@ -148,8 +148,7 @@ impl<'a> Record<'a> {
             Way::To(to) => Some(to),
             Way::Out | Way::Cut => None,
         };
-        let number = Item::Number(u64::from(label));
-        self.say_event(number, Item::Text(text), next, view);
+        self.say_event(Some((label, text)), next, view);
     }
 
     /// Notes what an instruction did with a packet, and where.
@@ -176,18 +175,18 @@ impl<'a> Record<'a> {
 
     /// The turn is over: the text is what is printed. Returns whether it is; one for which memory was refused is, so that this is known.
     pub fn end(&mut self, turn: Turn, view: &View<'_>) -> bool {
-        let now = Snapshot::of(view);
-        now.say_call(&self.before, &mut self.text);
-        self.before = now;
+        let (now, number) = (Snapshot::of(view), self.arrival.0);
         let (outcome, usual) = words_of(turn.outcome);
         let (runs, cuts, steps) = (turn.runs, turn.cuts, turn.steps);
+        now.say_call(&self.before, &mut self.text);
         self.text.say(format_args!("turn {outcome} runs {runs}"));
         self.text.say(format_args!(" cuts {cuts} steps {steps}\n"));
-        for (port, packets) in self.before.lists.iter().enumerate() {
+        for (port, packets) in now.lists.iter().enumerate() {
             if *packets > 0 {
                 self.text.say(format_args!("port {port} sends {packets}\n"));
             }
         }
+        self.before = now;
         if !matches!(turn.outcome, Outcome::Got) {
             self.became.bytes.clear();
             self.has_outcome |= matches!(self.shown.picked.only, Some(Only::Refused));
@@ -195,13 +194,15 @@ impl<'a> Record<'a> {
         if self.became.bytes.is_empty() {
             self.became.say(usual);
         }
-        let (number, became) = (self.arrival.0, text_of(&self.became));
-        self.text.say(format_args!("record {number}: {became}\n"));
+        self.text.say(format_args!("record {number}: "));
+        self.text.add(self.became.bytes.as_slice());
+        self.text.say("\n");
         let is_picked = self.has_outcome && self.came_by && self.has_bytes;
         if is_picked && self.shown.is_json {
-            let document = self.document(turn);
-            self.text.bytes.clear();
-            document.say_to(&mut self.text);
+            let mut line = Text::new(self.alloc);
+            line.has_failed = self.text.has_failed;
+            self.document(turn).say_to(&mut line);
+            self.text = line;
         }
         self.text.has_failed |= self.became.has_failed;
         is_picked || self.text.has_failed
@@ -212,11 +213,6 @@ impl<'a> Record<'a> {
         let (mut to, text) = (Document::new(self.alloc), text_of(&self.text));
         let (number, port, time, len) = self.arrival;
         let (seconds, nanos) = (time.sec, time.nano);
-        // The second line of a received record says what it is.
-        let summary = match (turn.outcome, text.lines().nth(1)) {
-            (Outcome::Got, Some(line)) => Item::Text(line.trim()),
-            _ => Item::Null,
-        };
         to.begin_object("");
         to.item("became", Item::Text(text_of(&self.became)));
         to.item("bytes", Item::Number(len as u64));
@@ -232,6 +228,11 @@ impl<'a> Record<'a> {
         to.item("runs", Item::Number(u64::from(turn.runs)));
         write_sends(&self.before.lists, &mut to);
         to.item("steps", Item::Number(u64::from(turn.steps)));
+        // The second line of a received record says what it is.
+        let summary = match (turn.outcome, text.lines().nth(1)) {
+            (Outcome::Got, Some(line)) => Item::Text(line.trim()),
+            _ => Item::Null,
+        };
         to.item("summary", summary);
         to.shown("time", format_args!("{seconds}.{nanos:09}"));
         to.end_object();
@@ -255,16 +256,20 @@ fn words_of(outcome: Outcome) -> (&'static str, &'static str) {
 
 /// Writes an event of a record with this text.
 fn write_event(event: Event<'_>, text: &str, to: &mut Document) {
-    let Event(node, label, ran, from, end) = event;
+    let Event(node, ran, from, end) = event;
     to.begin_object("");
     to.begin_list("changes");
     for line in text.get(from..end).unwrap_or("").lines() {
         to.item("", Item::Text(line.trim()));
     }
     to.end_list();
+    let (label, text) = match ran {
+        Some((label, text)) => (Item::Number(u64::from(label)), Item::Text(text)),
+        None => (Item::Null, Item::Null),
+    };
     to.item("label", label);
     to.shown("node", NodeName(node));
-    to.item("text", ran);
+    to.item("text", text);
     to.end_object();
 }
 

@@ -36,12 +36,8 @@ impl NodeTexts<'_> {
         if let Ok(number) = word.parse() {
             return Some(number);
         }
-        for named in self.labels.as_slice() {
-            if named.name == word {
-                return Some(named.label);
-            }
-        }
-        None
+        let named = self.labels.iter().find(|named| named.name == word)?;
+        Some(named.label)
     }
 }
 

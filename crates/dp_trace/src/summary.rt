@@ -8,7 +8,7 @@ pub fn after(bytes: &[u8], at: usize) -> &[u8] {
 }
 
 /// A byte; 0 if there are fewer.
-pub fn byte_at(bytes: &[u8], at: usize) -> u8 {
+fn byte_at(bytes: &[u8], at: usize) -> u8 {
     bytes.get(at).copied().unwrap_or(0)
 }
 
