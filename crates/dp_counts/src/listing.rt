@@ -44,6 +44,7 @@ fn print_other<O: Write>(text: &[u8], out: &mut O) -> io::Result<()>
 }
 
 // Prints a line of a program, and how many node runs were cut at its instruction, if there were any.
+#[tactic(auto, using(std::proofs::lemmas::Grind::common_steps))]
 fn print_line<O: Write>(
     counts: &Counts,
     node: Entry,
@@ -65,6 +66,7 @@ fn print_line<O: Write>(
 }
 
 // Prints the lines of a program.
+#[tactic(auto, using(std::proofs::lemmas::Grind::common_steps))]
 fn print_lines<O: Write>(counts: &Counts, source: &NodeSource<'_>, out: &mut O) -> io::Result<()>
     ensures { OnOk result (Appends (O.contents out.old) (O.contents out.new) (spec.lines_text counts.now source.now.node source.now.lines.items)) }
 {
