@@ -296,7 +296,7 @@ def may_be_far(way: Way, header: Header, before: Header) -> bool:
 
 
 def behind_far(way: Way, header: Header, at: int, found: Join[Way], missing: Join[Way]) -> None:
-    """Looks for a header so many bytes after the offset in a register, at each value of which all its bytes have to be."""
+    """Looks for a header this number of bytes after the offset in a register, at each value of which all its bytes have to be."""
     far, ready, end = way.far, Join[Way](), at + header.size
     if end > far.size:
         sizes = [way.headers[far.before].sizes[value] for value in far.lengths]

@@ -60,7 +60,7 @@ def block(ways: list[Way], text: Block, after: Join[Way]) -> None:
         if isinstance(it, (If, Need)) and not early:
             early = ways[0].unit.used_in_row(text, number)
         unit, follows = ways[0].unit, text[number + 1 : number + 2]
-        # What this statement asks of the length of a header, and the next one does not, is better known before headers behind it are looked for.
+        # What this statement asks of the length of a header, and the next one does not, is better known before the headers after it are looked for.
         asked = unit.lengths_asked(it) - unit.lengths_asked(follows) if isinstance(it, (If, Need)) and follows else set[str]()
         wanted = Counter({name: early[name] for name in early if not asked or asked.isdisjoint(unit.headers.looked_for(name) - {name})})
         later = end.needs | unit.needs_of(text, number)

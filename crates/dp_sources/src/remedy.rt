@@ -101,7 +101,7 @@ impl Failed<'_> {
         Some(())
     }
 
-    /// Says which line of its certificate, with this text, is at fault, or that it does not fit the program, with so many instructions.
+    /// Says which line of its certificate, with this text, is at fault, or that it does not fit the program, which has this number of instructions.
     fn say_fault(self, text: &[u8], count: usize, fault: Option<Fault>, err: &mut Text) {
         let (program, cert) = (self.asked.program, self.asked.cert.unwrap_or(""));
         let Some(fault) = fault else {

@@ -22,11 +22,11 @@ enum Value {
     Index(u8),
     Number(u64),
     Fact(Fact),
-    /// So many bytes of a packet, after an index that can be as great as the first number.
+    /// A number of bytes of a packet, beyond an index that can be as great as the first number.
     Bytes(Measure, u64, u32),
     /// The segments of a packet, and those of the packet in another register.
     Segments(u8, PacketRegister, u8),
-    /// A test of a register for at least so many bytes.
+    /// A test of a register for at least this number of bytes.
     Test(Measure, PacketRegister, u64),
 }
 
