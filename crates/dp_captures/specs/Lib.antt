@@ -4,6 +4,4 @@ pub mod Files
 pub mod Guarding
 pub mod Opening
 pub mod Outlets
-pub mod Closing
 pub mod Outputs
-pub mod Runs

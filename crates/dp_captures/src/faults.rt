@@ -3,10 +3,8 @@
 ghost use Rattle.std.specs.Prelude.{◌≡◌};
 ghost use Rattle.dp_captures.specs.Opening.{IsOf};
 
-use crate::names::CaptureNames;
 use crate::watched::Inlet;
 use dp_pcap::PcapError;
-use dp_pipe::RunCause;
 use std::fmt;
 use std::io::Error;
 
@@ -177,7 +175,7 @@ pub fn fault_at<'a>(name: &'a str, file: Option<&'a str>, reason: CaptureReason)
 }
 
 /// The reason for a fault of an input: the system's error if its reader failed, otherwise the fault of the capture.
-fn reason_of_input<I: Inlet>(cause: PcapError, input: Option<&I>) -> CaptureReason {
+pub fn reason_of_input<I: Inlet>(cause: PcapError, input: Option<&I>) -> CaptureReason {
     let Some(seen) = input.and_then(|input| input.seen()) else {
         return CaptureReason::Capture(cause);
     };
@@ -187,24 +185,4 @@ fn reason_of_input<I: Inlet>(cause: PcapError, input: Option<&I>) -> CaptureReas
         (PcapError::BadLink, _, Some(link), _) => CaptureReason::Link(link),
         _ => CaptureReason::Capture(cause),
     }
-}
-
-/// What is wrong with the capture at which a run stopped, if it stopped at one. `failure` is the error of an output's file.
-pub fn problem_of<'a, I: Inlet>(
-    names: &'a [CaptureNames],
-    ins: &[I],
-    cause: RunCause,
-    failure: Option<Error>,
-) -> Option<CaptureProblem<'a>> {
-    let unknown = CaptureReason::Capture(PcapError::Write);
-    let (port, reason) = match cause {
-        RunCause::In(k, error) => (k, reason_of_input(error, ins.get(usize::from(k)))),
-        RunCause::Out(k) => (k, failure.map_or(unknown, CaptureReason::System)),
-        RunCause::Memory | RunCause::NoRoom => return None,
-    };
-    let file = names.get(usize::from(port)).map(|names| match cause {
-        RunCause::In(..) => names.input.as_str(),
-        _ => names.output.as_str(),
-    });
-    Some(CaptureProblem { file, reason })
 }

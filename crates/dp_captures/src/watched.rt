@@ -3,9 +3,7 @@
 ghost use Rattle.std.specs.Prelude.{◌≡◌, ◌∷◌, []};
 
 use crate::faults::{Format, LinkType};
-use dp_engine::PortReport;
 use dp_pcap::{Feed, OfBufReader, Offers, WholeRecords, link_type};
-use std::fmt;
 use std::io::{Error, ErrorKind, Read, Result, Stderr, Write};
 
 /// A line is written after each further `STEP` records of a port.
@@ -44,25 +42,6 @@ impl Progress {
             let (mut to, port, records) = (self.to, self.port, after - after % STEP);
             self.is_on = writeln!(to, "progress: port {port}: {records} records read").is_ok();
         }
-    }
-}
-
-/// The records of a port that a run processed: those received, and those dropped before.
-fn records_done(port: &PortReport) -> u128 {
-    u128::from(port.received) + u128::from(port.nobuf) + u128::from(port.oversize)
-}
-
-/// For each port, a line with the number of records that a run processed.
-#[derive(Clone, Copy)]
-pub struct Totals<'a>(pub &'a [PortReport]);
-
-impl fmt::Display for Totals<'_> {
-    fn fmt<W: fmt::Write>(&self, f: &mut fmt::Formatter<W>) -> fmt::Result {
-        for (port, numbers) in self.0.iter().enumerate() {
-            let records = records_done(numbers);
-            writeln!(f, "progress: port {port}: {records} records read in all")?;
-        }
-        Ok(())
     }
 }
 

@@ -1,5 +1,1 @@
 mod Endings
-mod Numbers
-mod Stops
-mod Tables
-mod Words

@@ -13,13 +13,10 @@ use Rattle.dp_load.specs.declared.nodes.How.TheVariants as how
 use Rattle.dp_load.specs.{Files.FileMap, Loads.IsLoadedFrom, Loads.IsUnloaded, Pipelines.Plan, Singles.IsSinglePlan}
 use Rattle.dp_sources.specs.{Subjects.one_port, declared.subject.TheConstants.ONE_REGION}
 use Rattle.dp_verdict.specs.{Checks.SaysChecked, Inferring.SaysCert, Inferring.SaysInferred, Inferring.node_at}
-use Rattle.dp_cli.specs.Operands.{calls_in, operand, word_of}
+use Rattle.dp_request.specs.Operands.{calls_in, operand, word_of}
+use Rattle.dp_request.specs.Reading.{IsLoaded, IsNotLoaded, IsNotReady, NamesNone}
 use Rattle.dp_cli.specs.Runs.{AreGiven, AreNamed, EndsOver, IsFilterPort, NeverRuns, ReadsAndWrites, RunsOver}
-use Rattle.dp_cli.specs.Stops.{HasBoth, HasNoProgram, HasWrongNumber, IsNotLoaded, IsNotReady, NamesNone, Stopped, StopsAtWords}
-
--- a pipeline is that of a text and the files that it names, with named certificates or with inferred ones
-abbrev pub IsLoaded : How → Plan → Type 0
-IsLoaded how p = (text : List ℕ) × (files : FileMap) × IsLoadedFrom (Some files) how text p
+use Rattle.dp_cli.specs.Stops.{HasBoth, HasNoProgram, HasWrongNumber, Stopped, StopsAtWords}
 
 -- ---- `dpv run`
 

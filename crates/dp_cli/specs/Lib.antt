@@ -1,4 +1,3 @@
 pub mod Commands
-pub mod Operands
 pub mod Runs
 pub mod Stops

@@ -1,11 +1,12 @@
 -- What the words of `dpv run`, `dpv one` and `dpv filter` give, and a run over the captures that are opened for a pipeline.
-use Rattle.std.specs.Prelude.{◌≡◌, ℕ, ◌⊎◌, List, Bool, Option, Some, codes, map, [], ◌∷◌, MatchResult, Result, option_map}
-use Rattle.std.specs.{Io.Buffered.reader_remaining, List.list_any, Option.unwrap_or}
-use Rattle.clap.specs.{Matches.first_value, Matches.matched_of, Matches.raw_values, declared.parser.matches.Found.Found}
+use Rattle.std.specs.Prelude.{◌≡◌, ℕ, ◌⊎◌, List, Bool, ◌&&◌, Option, Some, None, codes, map, nat_le, nat_lt, [], ◌∷◌, MatchResult, Result, option_and_then}
+use Rattle.std.specs.Prelude.{option_map, if◌then◌else◌}
+use Rattle.std.specs.{Io.Buffered.reader_remaining, List.list_any}
+use Rattle.clap.specs.{Matches.first_value, declared.parser.matches.Found.Found}
 use Rattle.dp_captures.specs.{Files.AreInputs, Files.AreOutputs, Files.source_left, Guarding.AreGuarded, Outlets.joined, Outputs.file_took}
 use Rattle.dp_captures.specs.{Names.captures_from, Names.input_capture, Names.output_capture, Opening.IsFirstFault}
 use Rattle.dp_captures.specs.Words.{is_stream, only, row_of, rows_of}
-use Rattle.dp_captures.specs.declared.{closing.Flushed.Flushed, faults.CaptureFault.CaptureFault, file_id.ReadFile.ReadFile, guarded.Guarded.Guarded}
+use Rattle.dp_captures.specs.declared.{faults.CaptureFault.CaptureFault, file_id.ReadFile.ReadFile, guarded.Guarded.Guarded}
 use Rattle.dp_captures.specs.declared.{input_file.InputFile.InputFile, names.CaptureNames.CaptureNames, output_file.OutputFile.OutputFile}
 use Rattle.dp_captures.specs.declared.{watched.Watched.Watched, words.Replaced.Replaced}
 use Rattle.dp_captures.specs.declared.faults.CaptureFault.TheVariants as fault
@@ -14,9 +15,9 @@ use Rattle.dp_model.specs.Environments.{Environment}
 use Rattle.dp_pcap.specs.OfStd.{buffered_feed_health, buffered_reader, buffered_sink_health, buffered_writer}
 use Rattle.dp_pcap.specs.{Buffers.writer_contents, declared.of_buf_reader.OfBufReader.OfBufReader, declared.of_buf_writer.OfBufWriter.OfBufWriter}
 use Rattle.dp_load.specs.{Pipelines.Plan, declared.single.SingleFiles.SingleFiles}
-use Rattle.dp_pipe.specs.{Devices.Kind, Devices.kind, Running.answer_of}
-use Rattle.dp_runs.specs.{Replies.IsReplied, Replies.status_of, Watching.IsRunUnder, declared.run.Watcher.Watcher}
-use Rattle.dp_cli.specs.Operands.{IsFlag, operand, option_within}
+use Rattle.dp_pipe.specs.{Devices.Kind, Devices.kind, Running.answer_of, declared.forwarding.TheConstants.MAX_RUN_TURNS}
+use Rattle.dp_runs.specs.{Replies.IsReplied, Replies.status_of, Watching.IsRunUnder, declared.closing.Flushed.Flushed, declared.run.Watcher.Watcher}
+use Rattle.dp_request.specs.Operands.{IsFlag, number_in, operand, option_within, words_of}
 
 -- what contracts see of an input: the bytes that are left of it, if they are known
 abbrev pub inputs_kind : {F : Type 0} → (F → Option (List ℕ)) → Kind (OfBufReader (Watched (InputFile F)))
@@ -92,10 +93,6 @@ EndsOver remaining found p pattern inputs outputs reply =
 
 -- ---- what the words give
 
--- the words of an option that may be given several times
-abbrev pub words_of : Found → List ℕ → List (List ℕ)
-words_of found id = unwrap_or (option_map raw_values (matched_of found id)) []
-
 -- the captures that the words give ports in place of those that the pipeline names
 pub record AreGiven (found : Found) (inputs outputs : List Replaced) : Type 0 where
   pub read : Some (map row_of inputs) ≡ rows_of (words_of found (codes "in")) (words_of found (codes "no-in"))
@@ -135,3 +132,7 @@ pub record IsFilterPort (found : Found) (env : Environment) : Type 0 where
   pub segs : ℕ
   pub segs_is : segs_in found ≡ Some segs
   pub env_is : env ≡ filter_port room segs
+
+-- a word as a number of records of a trace: from 1 to the maximum number of turns of a run
+abbrev pub records_in : List ℕ → Option ℕ
+records_in word = option_and_then (λ n. if nat_lt 0 n && nat_le n MAX_RUN_TURNS then Some n else None) (number_in word)

@@ -5,12 +5,12 @@ ghost use Rattle.clap.specs.Matches.{found_of};
 ghost use Rattle.dp_sources.specs.Subjects.{env_of};
 ghost use Rattle.dp_cli.specs.Commands.{EndsCheck, EndsInfer, EndsInferOne};
 
-use crate::reading::{
-    Request, load_pipeline, node_in, read_about, read_file, read_nodes, read_pipeline,
-};
 use dp_console::{DONE, Reply};
 use dp_load::{How, PipeError, Pipeline};
 use dp_model::{Entry, Env};
+use dp_request::{
+    Request, load_pipeline, node_in, read_about, read_file, read_nodes, read_pipeline,
+};
 use dp_show::{Counted, Form, counts_in, say_sizes, show};
 use dp_sources::{Asked, Subject, one_env};
 use dp_verdict::{check_text, explain, infer, infer_one, say_costs};

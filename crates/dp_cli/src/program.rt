@@ -7,9 +7,7 @@ ghost use Rattle.dp_console.specs.Replies.{EndsWith};
 ghost use Rattle.dp_cli.specs.Commands as spec;
 ghost use Rattle.dp_cli.specs.Commands.{Answers, EndsCommand, EndsHelped};
 
-use crate::command_line::command;
 use crate::judging::{checked, explained, inferred, inferred_one, shown};
-use crate::reading::{Request, load_pipeline, read_file};
 use crate::running::{run_file, run_filter, run_one};
 use crate::tracing::{UNWRITTEN, traced};
 use clap::error::ErrorKind;
@@ -17,6 +15,7 @@ use dp_captures::Streams;
 use dp_console::{Console, DONE, FAULT, Reply, USAGE};
 use dp_engine::{CompiledPrograms, Nothing};
 use dp_load::How;
+use dp_request::{Request, command, load_pipeline, read_file};
 use dp_script::mem_reply;
 use dp_show::compile_reply;
 use dp_sources::Fault;

@@ -5,28 +5,25 @@ ghost use Rattle.clap.specs.Matches.{first_value, found_of};
 ghost use Rattle.dp_captures.specs.Words.{row_of, rows_of};
 ghost use Rattle.dp_engine.specs.Engines.{IsAscending};
 ghost use Rattle.dp_cli.specs.Commands.{EndsFilter, EndsLoaded, EndsOne, EndsRun, EndsSingle};
-ghost use Rattle.dp_cli.specs.Operands.{calls_in, option_within};
-ghost use Rattle.dp_cli.specs.Runs.{AreGiven, EndsOver, IsFilterPort, SaysRun, status_unopened, words_of};
+ghost use Rattle.dp_cli.specs.Runs.{AreGiven, EndsOver, IsFilterPort, SaysRun, status_unopened};
 ghost use Rattle.dp_cli.specs.Stops.{HasWrongNumber, StopsAtWords};
 ghost use Rattle.dp_load.specs.Singles.{HasOnePort};
 ghost use Rattle.dp_region.specs.Region.{IsRegionSize};
+ghost use Rattle.dp_request.specs.Operands.{calls_in, option_within, words_of};
 
-use crate::operands::{number_in, numbers_in};
-use crate::reading::{Given, Loaded, Request, load_pipeline, read_nodes};
 use dp_captures::{
     BUFFER, CaptureFault, CaptureNames, CaptureProblem, CaptureReason, Direction, InputOf,
     OutputOf, ReadFile, Replaced, Replacements, UNBUFFERED, WordProblem, captures_of, names_of,
     note_read, open_captures, remove_empty_outputs,
 };
 use dp_console::{Reply, Text};
+use dp_counts::{Counting, Notes, NumbersFrom, ProgramText, Wanted};
 use dp_engine::{CompiledPrograms, Nothing, need};
 use dp_load::{How, NodeName, Pipeline, SingleFiles, load_single};
 use dp_model::{Entry, Env, MAX_ROOM, MAX_SEGMENTS, MIN_PORT_ROOM, PoolSpec, PortSpec};
 use dp_region::{CACHE_LINE, MAX_REGION, MIN_REGION};
-use dp_runs::{
-    Counting, Notes, Origin, Printing, ProgramText, Ran, Wanted, Watcher, problem_of_run, reply_of,
-    run_over,
-};
+use dp_request::{Given, Loaded, Request, load_pipeline, number_in, numbers_in, read_nodes};
+use dp_runs::{Printing, Watcher, problem_of_run, reply_of, run_over};
 use dp_sources::{
     Because, Fault, FaultReason, Lent, ONE_REGION, Sources, Subject, folder_with, one_env,
 };
@@ -223,9 +220,9 @@ fn run_opened<K: CompiledPrograms, R: Files>(
         needed: need(&env),
         truncated: truncated_in(inputs),
         origin: match request.name {
-            "run" => Origin::File,
-            "one" => Origin::Fixed,
-            _ => Origin::Options,
+            "run" => NumbersFrom::File,
+            "one" => NumbersFrom::Fixed,
+            _ => NumbersFrom::Options,
         },
     };
     let problem = problem_of_run(names, inputs, &ran);

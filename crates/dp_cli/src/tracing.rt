@@ -1,24 +1,21 @@
 //! `dpv trace` and `dpv trace-one` over the host's files.
 
-ghost use Rattle.std.specs.Prelude.{◌≡◌, ◌≤◌, IfOk, length};
+ghost use Rattle.std.specs.Prelude.{◌≡◌, ◌≤◌, IfOk, IfSome, length};
+ghost use Rattle.dp_cli.specs.Runs as spec;
 ghost use Rattle.dp_engine.specs.Engines.{IsAscending};
 
-use crate::operands::{port_in, records_in};
-use crate::reading::{About, Request, read_about, read_nodes};
 use crate::running::{program_of, refused_in, unopened};
-use dp_captures::{CaptureNames, CaptureProblem, Replacements, names_of, open_inputs, problem_of};
+use dp_captures::{CaptureNames, CaptureProblem, Replacements, names_of, open_inputs};
 use dp_console::{DONE, FAULT, Reply, Text};
 use dp_engine::Nothing;
 use dp_lang::listing_of;
 use dp_load::{How, Pipeline, SingleFiles, load, load_single};
 use dp_model::Entry;
 use dp_pipe::{MAX_RUN_TURNS, RunCause, Traced};
-use dp_runs::say_stop;
+use dp_request::{About, Request, number_in, port_in, read_about, read_nodes};
+use dp_runs::{Printed, TracedRun, problem_of, say_stop, trace_records};
 use dp_sources::{Lent, ONE_REGION, Sources, Subject, one_env};
-use dp_trace::{
-    NamedLabel, NodeTexts, Picked, Printed, Shown, TracedRun, only_in, pattern_in, say_end,
-    trace_records,
-};
+use dp_trace::{NamedLabel, NodeTexts, Picked, Shown, only_in, pattern_in, say_end};
 use dp_verdict::{no_node, unloaded};
 use std::alloc::{AllocError, Global};
 use std::io::Write;
@@ -26,6 +23,17 @@ use std::rt::Files;
 
 /// What is reported if standard output cannot be written.
 pub const UNWRITTEN: &str = "fault: standard output cannot be written";
+
+/// Parses a word as a number of records, from 1 to [`MAX_RUN_TURNS`].
+pub fn records_in(word: &str) -> Option<u32>
+    ensures number { result ≡ spec.records_in word.now }
+    ensures range { IfSome result (λ records. (1 ≤ records) × (records ≤ MAX_RUN_TURNS)) }
+{
+    match number_in(word) {
+        Some(number @ 1..=MAX_RUN_TURNS) => Some(number as u32),
+        _ => None,
+    }
+}
 
 /// Which records the words select to be traced, and to be printed, but for `--instr`. If they select some, all are traced, and else 10.
 fn asked_in<R>(request: &Request<'_, '_, R>) -> Result<(Traced, Picked<'static>), Reply>

@@ -2,3 +2,4 @@ pub mod Counting
 pub mod Laws
 pub mod Listings
 pub mod Totals
+pub mod Report

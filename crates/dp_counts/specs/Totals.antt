@@ -1,8 +1,9 @@
 -- The sums of the counts of a pipeline's programs, and the lines of tables, rings and pools.
-use Rattle.std.specs.Prelude.{ℕ, zero, suc, ◌+◌, ◌-◌, ◌==◌, List, [], ◌∷◌, ◌++◌, codes, slice_index, min, sum_by, if◌then◌else◌}
+use Rattle.std.specs.Prelude.{ℕ, zero, suc, ◌+◌, ◌-◌, ◌==◌, List, [], ◌∷◌, ◌++◌, codes, slice_index, min, sum_by, if◌then◌else◌, take}
 use Rattle.std.specs.Option.{option_map_or}
 use Rattle.std.specs.Fmt.{decimal}
 use Rattle.dp_model.specs.Arithmetic.{wrapped}
+use Rattle.dp_model.specs.Environments.{Environment}
 use Rattle.dp_model.specs.declared.env.Entry.{Entry}
 use Rattle.dp_model.specs.declared.env.PoolSpec.{PoolSpec}
 use Rattle.dp_model.specs.declared.env.RingSpec.{RingSpec}
@@ -16,6 +17,7 @@ use Rattle.dp_counts.specs.declared.source.Step.{Step}
 use Rattle.dp_counts.specs.declared.source.SourceLine.{SourceLine}
 use Rattle.dp_counts.specs.declared.source.NodeSource.{NodeSource}
 use Rattle.dp_counts.specs.Counting.{Tally, step_counts}
+use Rattle.dp_counts.specs.Listings.{programs_text}
 
 -- how often the jump of an instruction was not taken, and how often it was taken or cut
 abbrev pub passed : StepCounts → ℕ
@@ -79,3 +81,8 @@ line_of_pool levels k p = pool_line k (slice_index levels.free k) p.count
 
 abbrev pub pool_lines : Levels → List PoolSpec → List ℕ
 pool_lines levels pools = lines_from (line_of_pool levels) 0 pools
+
+-- the programs, the sums for each table and each ring, and the least free buffers of each pool
+abbrev pub counts_text : Tally → Levels → Environment → List NodeSource → List ℕ
+counts_text t levels env sources = programs_text t sources ++ (table_lines t sources env.tables
+    ++ (ring_lines t levels sources (take 8 env.rings) ++ pool_lines levels (take 8 env.pools)))

@@ -230,6 +230,17 @@ fn add_counts<'a>(lines: &mut Vec<LineCounts<'a>>, more: LineCounts<'a>) -> Resu
     Ok(())
 }
 
+/// Adds a count to the one with its name.
+fn add_named<'a>(all: &mut Vec<NamedCount<'a>>, more: NamedCount<'a>) -> Result<(), AllocError> {
+    for own in all.as_mut_slice() {
+        if own.node == more.node && own.name == more.name {
+            own.packets = own.packets.wrapping_add(more.packets);
+            return Ok(());
+        }
+    }
+    Ok(all.push(more)?)
+}
+
 /// The counts of a program by the lines of its source, in their order; those of included files come last. Control came to a line as often as to the
 /// instructions in it that do not follow one of the same line.
 ///
@@ -267,18 +278,6 @@ pub fn lines_counted<'a>(
         line.origin.line.unwrap_or(usize::MAX),
     ))?;
     Ok(lines)
-}
-
-/// Adds a count to the one with its name.
-fn add_named<'a>(all: &mut Vec<NamedCount<'a>>, more: NamedCount<'a>) -> Result<(), AllocError> {
-    for own in all.as_mut_slice() {
-        if own.node == more.node && own.name == more.name {
-            own.packets = own.packets.wrapping_add(more.packets);
-            return Ok(());
-        }
-    }
-    all.push(more)?;
-    Ok(())
 }
 
 /// The counts that have names, in the order of the programs and of the first instruction with each name. A name that stands several times in a program is

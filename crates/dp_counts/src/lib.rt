@@ -6,27 +6,35 @@
 //! After the run, `print_programs` prints the programs in the words of their source with their counts, and `print_tables` and `print_rings`
 //! the sums for each table and ring; `CountsDocument` is all of that as JSON, which `counts_of` reads. `lines_counted` sums by the lines of a
 //! source, of the language pkt where `dpv build` wrote the program; `drop_places` is where packets ended, and `named_counts` what has a name.
-//! `Losses` is a watcher that counts only what was refused.
+//! `Counting` is the counts of a run with the sources of its programs. `Losses` is a watcher that counts only what was refused, `print_report` prints
+//! the report of a run, and `Notes` says what it lost.
 //!
-//! Who owns what: the caller owns the `Counts` and lends them to the run. Only `new` takes memory, 560 kB.
+//! Who owns what: the caller owns the `Counts` and lends them to the run; `Counting` borrows the texts of the programs. Only `new` takes memory, 560 kB.
 //!
-//! What not to assume: a number wraps at 2^64, which no run of captures reaches. `step` adds up from label 0 each time. A step that was cut counts as one
-//! that ran and not as a jump. `levels`, refusals, which line has which instruction, sums by lines, names and documents are tested, not proved.
+//! What not to assume: the texts of reports and of counts are exact. A number wraps at 2^64, which no run of captures reaches. `step` adds up from
+//! label 0 each time. A step that was cut counts as one that ran and not as a jump. `levels`, refusals, which line has which instruction, sums by
+//! lines, names, notes and documents are tested, not proved.
 #![tactic(auto)]
 
 mod by_line;
+mod counting;
 mod counts;
 mod document;
 mod laws;
 mod levels;
 mod listing;
 mod losses;
+mod notes;
 mod reader;
+mod report;
 mod source;
 
 pub use by_line::{
     DropCause, DropPlace, LineCounts, NamedCount, Origin, drop_places, lines_counted, named_counts,
     source_name,
+};
+pub use counting::{
+    Counting, ProgramText, Wanted, say_lines, say_place, say_refusals, write_listing,
 };
 pub use counts::{Counts, StepCounts};
 pub use document::CountsDocument;
@@ -34,5 +42,7 @@ pub use laws::{counts_are_of_steps, counts_are_of_turns, counts_begin_at_zero, t
 pub use levels::Levels;
 pub use listing::{Total, print_pools, print_programs, print_rings, print_tables, total_of};
 pub use losses::{Losses, Refusals};
+pub use notes::{Notes, NumbersFrom};
 pub use reader::{CountsError, ReadCount, counts_of};
+pub use report::{Totals, print_report};
 pub use source::{NodeSource, Role, SourceLine, Step, lines_of};

@@ -1,4 +1,6 @@
+pub mod Closing
 pub mod Lines
 pub mod Replies
-pub mod Report
+pub mod Runs
+pub mod Traces
 pub mod Watching

@@ -1,7 +1,7 @@
 -- A run on the command line.
 use Rattle.std.specs.Prelude.{◌≡◌, ℕ, List, Bool, false, Option}
-use Rattle.dp_captures.specs.declared.closing.Flushed.{Flushed}
-use Rattle.dp_captures.specs.Runs.{IsRun}
+use Rattle.dp_runs.specs.declared.closing.Flushed.{Flushed}
+use Rattle.dp_runs.specs.Runs.{IsRun}
 use Rattle.dp_console.specs.declared.reply.Reply.{Reply}
 use Rattle.dp_console.specs.Replies.{EndsWith}
 use Rattle.dp_engine.specs.declared.watch.Silent.{Silent}

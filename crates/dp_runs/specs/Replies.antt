@@ -1,23 +1,17 @@
 -- What is said of a run, and its exit status.
-use Rattle.std.specs.Prelude.{◌≡◌, ℕ, List, [], ◌∷◌, ◌++◌, Bool, true, false, codes, Option, None, Some, Result, Ok, Err, ⊤, take}
+use Rattle.std.specs.Prelude.{◌≡◌, ℕ, List, [], ◌∷◌, ◌++◌, Bool, true, false, codes, Option, None, Some, Result, Ok, Err, ⊤}
 use Rattle.std.specs.Option.{option_map_or}
 use Rattle.std.specs.Fmt.{decimal}
 use Rattle.dp_console.specs.declared.reply.Reply.{Reply}
 use Rattle.dp_console.specs.declared.reply.Text.{Text}
 use Rattle.dp_console.specs.Replies.{IsWhole}
-use Rattle.dp_counts.specs.declared.levels.Levels.{Levels}
-use Rattle.dp_counts.specs.declared.source.NodeSource.{NodeSource}
-use Rattle.dp_counts.specs.Counting.{Tally}
-use Rattle.dp_counts.specs.Listings.{programs_text}
-use Rattle.dp_counts.specs.Totals.{table_lines, ring_lines, pool_lines}
 use Rattle.dp_engine.specs.declared.report.Report.{Report}
-use Rattle.dp_model.specs.Environments.{Environment}
 use Rattle.dp_pcap.specs.Causes.{number_of}
 use Rattle.dp_pipe.specs.declared.forwarding.RunCause.{RunCause}
 use Rattle.dp_pipe.specs.declared.forwarding.RunCause.TheVariants.{Memory, NoRoom, In, Out}
 use Rattle.dp_pipe.specs.declared.running.RunFault.{RunFault}
 use Rattle.dp_pipe.specs.Running.{answer_of}
-use Rattle.dp_runs.specs.Report.{report_text}
+use Rattle.dp_counts.specs.Report.{report_text}
 
 -- the status of a run that stopped: 4 for lack of memory, else 3
 abbrev pub status_of_cause : RunCause → ℕ
@@ -52,11 +46,6 @@ printed_of (Err f) = report_for f.cause f.report
 
 abbrev pub printed_text : Result Report RunFault → List ℕ
 printed_text answer = option_map_or report_text (printed_of answer) []
-
--- the programs, the sums for each table and each ring, and the least free buffers of each pool
-abbrev pub counts_text : Tally → Levels → Environment → List NodeSource → List ℕ
-counts_text t levels env sources = programs_text t sources ++ (table_lines t sources env.tables
-    ++ (ring_lines t levels sources (take 8 env.rings) ++ pool_lines levels (take 8 env.pools)))
 
 -- a whole text has these bytes
 abbrev pub Reads : Text → List ℕ → Type 0

@@ -1,7 +1,7 @@
 -- Runs under a watcher.
 use Rattle.std.specs.Prelude.{◌≡◌, ℕ, List, Option, ⊤}
-use Rattle.dp_captures.specs.declared.closing.Flushed.{Flushed}
-use Rattle.dp_captures.specs.Runs.{IsRun}
+use Rattle.dp_runs.specs.declared.closing.Flushed.{Flushed}
+use Rattle.dp_runs.specs.Runs.{IsRun}
 use Rattle.dp_counts.specs.Counting.{counts_see}
 use Rattle.dp_counts.specs.declared.losses.Losses.{Losses as LossCounts}
 use Rattle.dp_engine.specs.Watching.{Event}

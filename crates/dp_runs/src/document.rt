@@ -1,10 +1,9 @@
 //! A run as a JSON document.
 
-use crate::counting::Counting;
 use crate::reply::{Printing, StopText, printed_of, status_of};
 use crate::run::Ran;
 use dp_console::{Document, Item, Text};
-use dp_counts::{CountsDocument, lines_counted, source_name};
+use dp_counts::{Counting, CountsDocument, lines_counted, source_name};
 use dp_engine::{InputState, Report};
 use dp_load::NodeName;
 use dp_pipe::RunFault;

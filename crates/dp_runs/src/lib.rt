@@ -1,23 +1,25 @@
 //! Runs pipelines from captures to captures, and says what a run did.
 //!
-//! [`run_line`] runs a pipeline and prints its report on any two writers. Beyond it: [`run_over`] runs under a watcher and returns what the run did as a
-//! value, [`Ran`]; [`reply_of`] says that as text or as a JSON document, with the counts of the run if they are requested; a console prints it.
+//! [`run_captures`] runs a pipeline over its captures under a watcher, and writes out what the outputs hold back. [`run_line`] also prints its report on
+//! any two writers. [`run_over`] runs under the watchers of a command line and returns what the run did as a value, [`Ran`]; [`reply_of`] says that as
+//! text or as a JSON document, with the counts of the run if they are requested; a console prints it.
 //!
-//! Who owns what: a run takes the pipeline and the list of refused calls, and borrows its captures. [`Counting`] owns the counts of a run and borrows
-//! the texts of the programs.
+//! [`trace_records`] runs a pipeline over readers by dp_pipe's `trace` and prints each selected record as it ends. A text for which memory was refused,
+//! or that could not be written, ends the printing; the run goes on, and [`Printed`] says which it was.
 //!
-//! What not to assume: the text of a report is exact, and that of counts; the notes on what was lost, and documents, are tested.
+//! Who owns what: a run takes the pipeline and the list of refused calls, and borrows its captures.
+//!
+//! What not to assume: the text of a report is exact, and that of counts; the notes on what was lost, documents, and the
+//! wording of traces are tested.
 #![tactic(auto)]
 
-mod counting;
+mod closing;
 mod document;
-mod notes;
 mod reply;
-mod report;
 mod run;
+mod tracing;
 
-pub use counting::{Counting, ProgramText, Wanted};
-pub use notes::{Notes, Origin};
+pub use closing::{Flushed, flush_outputs, problem_of, run_captures};
 pub use reply::{Printing, reply_of, say_stop, status_of};
-pub use report::print_report;
 pub use run::{Ran, Watcher, problem_of_run, run_line, run_over};
+pub use tracing::{Printed, TracedRun, trace_records};

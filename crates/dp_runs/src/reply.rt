@@ -5,12 +5,13 @@ ghost use Rattle.dp_pipe.specs.Running.{answer_of};
 ghost use Rattle.dp_runs.specs.Replies as spec;
 ghost use Rattle.dp_runs.specs.Replies.{Reads};
 
-use crate::counting::{Counting, Wanted, say_lines, say_place, say_refusals, write_listing};
-use crate::notes::Notes;
-use crate::report::print_report;
 use crate::run::Ran;
-use dp_captures::{CaptureProblem, Totals};
+use dp_captures::CaptureProblem;
 use dp_console::{DONE, FAULT, MEMORY, Reply, Text};
+use dp_counts::{
+    Counting, Notes, Totals, Wanted, print_report, say_lines, say_place, say_refusals,
+    write_listing,
+};
 use dp_engine::Report;
 use dp_load::NodeName;
 use dp_model::Env;

@@ -7,11 +7,11 @@ ghost use Rattle.dp_engine.specs.Engines.{IsAscending};
 ghost use Rattle.dp_runs.specs.Lines.{IsRunLine};
 ghost use Rattle.dp_runs.specs.Watching.{IsRunUnder};
 
-use crate::counting::{Counting, Wanted};
+use crate::closing::{Flushed, problem_of, run_captures};
 use crate::reply::{Printing, reply_of};
-use dp_captures::{CaptureNames, CaptureProblem, Flushed, Inlet, Outlet, problem_of, run_captures};
+use dp_captures::{CaptureNames, CaptureProblem, Inlet, Outlet};
 use dp_console::{FAULT, MEMORY, Reply};
-use dp_counts::{Losses, Refusals};
+use dp_counts::{Counting, Losses, Refusals, Wanted};
 use dp_engine::{CompiledPrograms, Nothing, Silent};
 use dp_load::Pipeline;
 use std::alloc::{AllocError, Global};

@@ -2,7 +2,7 @@
 
 use crate::changes::{BytesBefore, Snapshot, bytes_before};
 use crate::picked::Only;
-use crate::run::Shown;
+use crate::shown::Shown;
 use crate::summary::say_summary;
 use dp_console::{Document, Item, Text};
 use dp_engine::{Outcome, Turn, View, Way};

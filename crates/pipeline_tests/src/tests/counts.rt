@@ -7,13 +7,13 @@ use Content::Text;
 use arrayvec::ArrayVec;
 use dp_console::{Document, Text as Said};
 use dp_counts::{
-    Counts, CountsDocument, CountsError, DropCause, DropPlace, LineCounts, NodeSource, Origin,
-    ReadCount, Total, counts_of, lines_counted, lines_of, total_of,
+    Counting, Counts, CountsDocument, CountsError, DropCause, DropPlace, LineCounts, NodeSource,
+    Origin, ReadCount, Total, counts_of, lines_counted, lines_of, total_of,
 };
 use dp_engine::{InputState, PortReport, Report};
 use dp_lang::{assemble, source_lines};
 use dp_model::{Entry, Env};
-use dp_runs::{Counting, Watcher};
+use dp_runs::Watcher;
 use std::alloc::{AllocError, Global};
 use std::io::Stderr;
 use std::test::Fail;

@@ -2,10 +2,11 @@
 
 use super::devices::Disk;
 use dp_captures::{Guarded, Progress, Watched};
+use dp_counts::{Counting, ProgramText};
 use dp_engine::Nothing;
 use dp_load::{How, Listed, NamedBytes, Pipeline, load};
 use dp_pcap::{Buffered, OfBufReader, OfBufWriter};
-use dp_runs::{Counting, ProgramText, Ran, Watcher, run_line, run_over};
+use dp_runs::{Ran, Watcher, run_line, run_over};
 use std::alloc::{AllocError, Global};
 use std::io::{BufReader, Stderr};
 use std::test::Fail;

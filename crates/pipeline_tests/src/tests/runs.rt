@@ -7,15 +7,14 @@ use super::plans::{BACK, FULL_RING, Plan, TWICE, Watch, loaded, ran, run_plainly
 use Content::Text;
 use Watch::{Counting, Losses, Silent};
 use dp_captures::{
-    BUFFER, CaptureNames, Direction, Flushed, Replacements, Streams, captures_of, names_of,
-    open_captures, run_captures,
+    BUFFER, CaptureNames, Direction, Replacements, Streams, captures_of, names_of, open_captures,
 };
 use dp_console::Reply;
-use dp_counts::Refusals;
+use dp_counts::{Notes, NumbersFrom, Refusals, Wanted};
 use dp_engine::{Nothing, Report};
 use dp_load::Pipeline;
 use dp_model::Env;
-use dp_runs::{Notes, Origin, Printing, Ran, Wanted, Watcher, reply_of};
+use dp_runs::{Flushed, Printing, Ran, Watcher, reply_of, run_captures};
 use std::alloc::{AllocError, Global};
 use std::io::Stderr;
 use std::test::Fail;
@@ -274,7 +273,7 @@ fn reply<'p>(
             region: 65_536,
             needed: 4096,
             truncated: [0; 8],
-            origin: Origin::File,
+            origin: NumbersFrom::File,
         }),
     };
     reply_of(alloc, ran, &printing)

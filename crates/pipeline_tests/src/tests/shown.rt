@@ -1,7 +1,8 @@
 //! The texts of causes, of link types and of the numbers of a run.
 
 use Shown::{Cause, Cure, Link, Sums};
-use dp_captures::{CaptureReason, LinkType, Totals};
+use dp_captures::{CaptureReason, LinkType};
+use dp_counts::Totals;
 use dp_engine::{InputState, PortReport};
 use dp_load::{Part, PipeError, RouteError};
 use dp_lpm::LpmError;

@@ -1,0 +1,188 @@
+//! What a run lost, with what helps.
+
+use crate::losses::Refusals;
+use dp_console::Text;
+use dp_engine::{InputState, PortReport, Report};
+use dp_load::NodeName;
+use dp_model::{Entry, Env, MAX_BUFFERS, MAX_RING, MAX_ROOM, MAX_SEGMENTS, PortSpec};
+use dp_region::{CACHE_LINE, MIN_REGION};
+use std::fmt::Display;
+
+/// Where the numbers of a run's pipeline are given, which may be too small.
+#[derive(Clone, Copy)]
+pub enum NumbersFrom {
+    /// In a pipeline file.
+    File,
+    /// In the options of `dpv filter`, for the segments and the room of its port.
+    Options,
+    /// Nowhere: they are those of `dpv one`.
+    Fixed,
+}
+
+/// What is known about a run that its report does not have.
+#[derive(Clone, Copy)]
+pub struct Notes {
+    /// The size of the pipeline's region, and the bytes that it needs.
+    pub region: u64,
+    pub needed: u64,
+    /// For each port, how many records were cut by the capture's snap length.
+    pub truncated: [u64; 8],
+    /// Where a number could be raised.
+    pub origin: NumbersFrom,
+}
+
+/// A run whose losses are said.
+#[derive(Clone, Copy)]
+struct Noted<'a> {
+    report: &'a Report,
+    refusals: Refusals,
+    env: &'a Env,
+    origin: NumbersFrom,
+}
+
+/// The word for one, or that for any other number.
+fn word(number: u64, one: &'static str, others: &'static str) -> &'static str {
+    if number == 1 { one } else { others }
+}
+
+impl Noted<'_> {
+    /// Ends a note with what helps where a number of a pipeline file is too small; these options, if there are any, stand for it.
+    fn end<T: Display + Drop>(self, is_most: bool, number: T, options: &str, out: &mut Text) {
+        match self.origin {
+            _ if is_most => out.say(": no pipeline may have more\n"),
+            NumbersFrom::File => out.say(format_args!(": raise {number}\n")),
+            NumbersFrom::Options if options != "" => out.say(format_args!(": raise {options}\n")),
+            NumbersFrom::Options | NumbersFrom::Fixed => out.say(
+                ": a pipeline file may give more\n",
+            ),
+        }
+    }
+
+    /// Ends a note with what helps where a pool has too few buffers.
+    fn end_of_pool(self, pool: u32, out: &mut Text) {
+        let calls = self.report.refused;
+        if calls > 0 {
+            let word = word(calls, "call", "calls");
+            return out.say(format_args!(": --refuse refused {calls} {word}\n"));
+        }
+        let own = self.env.pools().get(pool as usize);
+        let is_most = own.is_none_or(|own| own.count >= MAX_BUFFERS);
+        self.end(is_most, format_args!("the count of pool {pool}"), "", out);
+    }
+
+    /// Says which records of a port were not received.
+    fn say_records(self, k: u8, port: &PortSpec, numbers: &PortReport, out: &mut Text) {
+        let (long, few) = (numbers.oversize, numbers.nobuf);
+        if long > 0
+            && let Some(pool) = self.env.pools().get(port.pool as usize)
+        {
+            let most = u64::from(port.segs) * u64::from(pool.room.saturating_sub(128));
+            let is_most = port.segs == u32::from(MAX_SEGMENTS) && pool.room == MAX_ROOM;
+            let are = word(long, "record is", "records are");
+            out.say(format_args!("port {k}: {long} {are} longer than it takes ({most} bytes)"));
+            self.end(is_most, "segs or room", "--segs or --room", out);
+        }
+        if few > 0 {
+            let found = match self.report.refused {
+                0 => "found too few free buffers",
+                _ => "got no buffers",
+            };
+            let records = word(few, "record", "records");
+            out.say(format_args!("port {k}: {few} {records} {found}"));
+            self.end_of_pool(port.pool, out);
+        }
+    }
+
+    /// Says how often a list or a ring of this number of places was full, if it was.
+    fn say_full(self, node: Entry, full: u64, places: u32, out: &mut Text) {
+        let (what, number) = match node {
+            Entry::Port(_) => ("its transmit list", "its queue"),
+            Entry::Ring(_) => ("it", "its count"),
+        };
+        if full > 0 {
+            let (name, times) = (NodeName(node), word(full, "time", "times"));
+            out.say(format_args!("{name}: {what} was full {full} {times} when a packet came"));
+            self.end(places >= MAX_RING, number, "", out);
+        }
+    }
+
+    /// Says what ports lost.
+    fn say_ports(self, out: &mut Text) {
+        let ports = self.report.ports.as_slice().iter().zip(self.env.ports());
+        for (k, ((numbers, port), full)) in (0..8u8).zip(ports.zip(self.refusals.lists)) {
+            self.say_records(k, port, numbers, out);
+            self.say_full(Entry::Port(k), full, port.queue, out);
+            if let InputState::Cut(byte) = numbers.state {
+                let ends = "its input ends within the record at byte";
+                out.say(format_args!("port {k}: {ends} {byte}, which is not read\n"));
+            }
+        }
+    }
+
+    /// Says what rings lost.
+    fn say_rings(self, out: &mut Text) {
+        let rings = self.report.rings.as_slice().iter().zip(self.env.rings());
+        for (k, ((left, ring), full)) in (0..8u8).zip(rings.zip(self.refusals.rings)) {
+            self.say_full(Entry::Ring(k), full, ring.count, out);
+            if *left > 0 {
+                let were = word(*left, "packet was", "packets were");
+                out.say(format_args!("ring {k}: {left} {were} left at the end: "));
+                out.say("a turn runs 32 packets from rings at most; ");
+                out.say("let programs put fewer into rings for each record\n");
+            }
+        }
+    }
+
+    /// Says which buffers programs did not get, and which node runs were cut.
+    fn say_programs(self, out: &mut Text) {
+        for (k, number) in (0..8u32).zip(self.refusals.pools) {
+            if number > 0 {
+                let times = word(number, "time", "times");
+                out.say(format_args!("pool {k}: alloc or clone got no buffers {number} {times}"));
+                self.end_of_pool(k, out);
+            }
+        }
+        let cut = self.report.cut;
+        if cut > 0 {
+            let runs = word(cut, "node run was cut: it", "node runs were cut: each");
+            out.say(format_args!("{cut} {runs} took more than 256 backward jumps, "));
+            out.say("and its packets were freed; --counts shows which loop\n");
+        }
+    }
+}
+
+impl Notes {
+    /// Says the size of a region that is large enough.
+    fn say_region(self, out: &mut Text) {
+        let (needed, line) = (self.needed, u64::from(CACHE_LINE));
+        let lines = needed.max(u64::from(MIN_REGION)).div_ceil(line);
+        let region = lines.saturating_mul(line);
+        out.say(format_args!("  help: the pools, rings and ports need {needed} bytes "));
+        out.say(format_args!("(dpv check FILE --sizes shows the parts): region = {region}\n"));
+    }
+
+    /// Says what the run with this report lost.
+    pub fn say(self, report: &Report, refusals: Refusals, env: &Env, out: &mut Text) {
+        if self.region < self.needed {
+            self.say_region(out);
+        } else {
+            let origin = self.origin;
+            let noted = Noted {
+                report,
+                refusals,
+                env,
+                origin,
+            };
+            noted.say_ports(out);
+            noted.say_rings(out);
+            noted.say_programs(out);
+        }
+        for (port, records) in self.truncated.into_iter().enumerate() {
+            if records > 0 {
+                let were = word(records, "record was", "records were");
+                out.say(format_args!("port {port}: {records} {were} cut by the capture's "));
+                out.say("snap length: capture with a larger -s\n");
+            }
+        }
+    }
+}

@@ -1,0 +1,4 @@
+mod Numbers
+mod Stops
+mod Tables
+mod Words
