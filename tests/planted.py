@@ -5,7 +5,7 @@ which only crates that are proved in less than a minute have, since `rt ci` prov
 
 Usage: tests/planted.py [--jobs N] [--alone] [--must-fail] [--since COMMIT] [--part N OF] [--most N] [CRATE ..]
        tests/planted.py [--jobs N] [--alone] FILE.edit ..
-       tests/planted.py [--jobs N] --gate
+       tests/planted.py [--jobs N] --gate [--early PROVED] [--done DONE]
        tests/planted.py --count
 
 Where nothing says which, all are tried.
@@ -19,6 +19,8 @@ Where nothing says which, all are tried.
   --gate       what the gate tries at this commit, at most 68: all of planted/always; then part N of 96, where N is the number of
                changes so far by 96, or the day where there is no such history; then edits that are new since the commit 8
                changes back, then those of functions whose text has changed since
+  --early P    while `rt ci` runs, with the lowest priority: those of a crate once the file P names all crates below it, the lowest crates first
+  --done D     leaves out those that the file D names, and adds to it each that is refused
   --count      tries none: writes how many each crate has into the table of docs/developing/notes/wrong_bodies.md
   --alone      each in a check of its own, with all functions as they are
   --jobs N     N checks side by side (by default as many as there are processors and memory)
@@ -243,6 +245,11 @@ class Edit:
         # Whether a check that it shared gave no result for it.
         self.was_hidden = False
 
+    @property
+    def path(self) -> str:
+        """Its file, from the repository's top."""
+        return str(self.file.relative_to(TOP))
+
     @functools.cached_property
     def pairs(self) -> list[tuple[str, str, str]]:
         """Its changes; Unfit where it is not written as an edit has to be."""
@@ -297,8 +304,9 @@ def edits_in(crate: Crate, folder: str) -> list[Edit]:
 
 @dataclasses.dataclass
 class Tally:
-    """The results of a crate's edits, and the cost of their checks."""
+    """The results of a crate's edits, and the cost of their checks. `done` is the file that names what was refused, if there is one."""
 
+    done: pathlib.Path | None = None
     refused: int = 0
     passed: list[str] = dataclasses.field(default_factory=list)
     unfit: list[str] = dataclasses.field(default_factory=list)
@@ -440,6 +448,19 @@ def fit(edits: list[Edit], tally: Tally) -> list[Edit]:
     return found
 
 
+def note_done(done: pathlib.Path | None, edits: list[Edit]) -> None:
+    """Adds the names of edits that were refused to the file of those that are done, if there is one."""
+    if done:
+        with PRINTING, done.open("a") as file:
+            file.writelines(f"{it.path}\n" for it in edits)
+
+
+def await_proofs(crate: Crate, proved: pathlib.Path) -> None:
+    """Waits until the file names all crates below this one."""
+    while not {it.name for it in crate.below()} <= set(proved.read_text().split()):
+        time.sleep(1)
+
+
 def try_beside(crate: Crate, edits: list[Edit], most: int, tally: Tally, kept: str | None) -> list[Edit]:
     """Tries these edits, this number to a check. Returns those without a result."""
     again, waiting = [], edits
@@ -450,6 +471,7 @@ def try_beside(crate: Crate, edits: list[Edit], most: int, tally: Tally, kept: s
         for it in hidden:
             it.was_hidden = True
         tally.refused += len(now) - len(hidden)
+        note_done(tally.done, [it for it in now if it not in hidden])
         waiting = [it for it in waiting if it not in now]
         if refused:
             waiting += hidden
@@ -461,14 +483,16 @@ def try_beside(crate: Crate, edits: list[Edit], most: int, tally: Tally, kept: s
     return again
 
 
-def try_crate(crate: Crate, edits: list[Edit], is_alone: bool) -> Tally:
+def try_crate(crate: Crate, edits: list[Edit], by: argparse.Namespace) -> Tally:
     """Tries a crate's edits, in as few checks as can tell them apart."""
-    tally = Tally()
+    tally = Tally(by.done)
+    if by.early:
+        await_proofs(crate, by.early)
     left = fit(edits, tally)
     with tempfile.TemporaryDirectory(prefix="planted-kept-") as kept:
         if (crate.folder / "out/incremental").is_dir():
             shutil.copytree(crate.folder / "out/incremental", kept, dirs_exist_ok=True)
-        for most in () if is_alone else SHARING[:-1]:
+        for most in () if by.alone else SHARING[:-1]:
             left = try_beside(crate, left, most, tally, kept)
     left = try_beside(crate, left, SHARING[-1], tally, None)
     for it in left:
@@ -536,6 +560,8 @@ def asked() -> argparse.Namespace:
     words.add_argument("--part", type=int, nargs=2)
     words.add_argument("--most", type=int)
     words.add_argument("--gate", action="store_true")
+    words.add_argument("--early", type=pathlib.Path)
+    words.add_argument("--done", type=pathlib.Path)
     words.add_argument("--count", action="store_true")
     words.add_argument("crates", nargs="*")
     by = words.parse_args()
@@ -621,20 +647,25 @@ def main() -> int:
     if by.gate and page.read_text() != counted(page.read_text()):
         sys.exit("planted: docs/developing/notes/wrong_bodies.md counts what was there before: run tests/planted.py --count")
     edits, left = chosen(by)
+    done = set(by.done.read_text().split()) if by.done and by.done.exists() else set()
+    edits, before = [it for it in edits if it.path not in done], len(edits)
     groups: dict[Crate, list[Edit]] = collections.defaultdict(list)
     for it in edits:
         groups[it.crate].append(it)
     lacking = sorted({dep.name for it in groups for dep in it.below() if not dep.library.is_dir()})
-    if lacking:
+    if lacking and not by.early:
         sys.exit(f"planted: no library of {', '.join(lacking)} is built yet: run `rt ci` or `rt all check` at the top of the repository first")
-    tasks = sorted(groups.items(), key=lambda it: -len(it[1]))
+    tasks = sorted(groups.items(), key=lambda it: len(it[0].below()) if by.early else -len(it[1]))
+    if by.early:
+        os.nice(19)
     with concurrent.futures.ThreadPoolExecutor(lanes(by.jobs)) as pool:
-        tallies = list(pool.map(lambda it: try_crate(*it, by.alone), tasks))
+        tallies = list(pool.map(lambda it: try_crate(*it, by), tasks))
     for (crate, tried), it in zip(tasks, tallies):
         said = f"{it.checks} checks, {it.refused} refused, {len(it.passed)} not refused, {len(it.unfit)} not tried, {it.seconds:.0f} s"
         say(f"{crate.name}: {len(tried)} edits, {said}")
     failed, unfit = [[name for it in tallies for name in names(it)] for names in (lambda it: it.passed + it.unfit, lambda it: it.unfit)]
     reported = [f"planted: {sum(it.refused for it in tallies)} refused, {len(failed)} not{': ' * bool(failed)}{' '.join(failed)}"]
+    reported += [f"{before - len(edits)} were refused before"] * (before > len(edits))
     reported += [f"{len(unfit)} of them could not be tried"] * bool(unfit) + [f"{left} are left for another time"] * bool(left)
     say("; ".join([*reported, f"{sum(it.seconds for it in tallies):.0f} s of processor time"]))
     return 1 if failed else 0

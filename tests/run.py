@@ -6,14 +6,16 @@ Usage: tests/run.py [--minutes N] [GROUP ..]
        tests/run.py --list
 
 GROUP is one of texts, proofs, bodies, program, tools, library and random; by default all of them. Groups from `bodies` on use what `rt ci`
-builds. Scripts run side by side, one for each processor and those that take longest first. A line says when one begins; what it prints stands
-together, at its end. The random cases take N minutes of processor time (8), with a seed from the commit; a failure names the command that
-repeats it, and what a script that failed printed last stands at the end, too. There each missing tool is named with what was skipped, and what
-all took. --list prints the table of docs/developing/testing.md.
+builds; wrong bodies are tried beside it, too, once the libraries below a crate are proved. Scripts run side by side, one for each processor
+and those that take longest first. A line says when one begins; what it prints stands together, at its end. The random cases take N minutes
+of processor time (8), with a seed from the commit; a failure names the command that repeats it, and what a script that failed printed last
+stands at the end, too. There each missing tool is named with what was skipped, and what all took. --list prints the table of
+docs/developing/testing.md.
 """
 import argparse
 import collections
 import concurrent.futures
+import contextlib
 import dataclasses
 import importlib.util
 import os
@@ -21,9 +23,12 @@ import pathlib
 import re
 import shlex
 import shutil
+import signal
 import subprocess
 import sys
+import tempfile
 import time
+from collections.abc import Iterator
 
 TOP = pathlib.Path(__file__).resolve().parent.parent
 PROGRAM = "crates/dpv/out/dpv"
@@ -98,6 +103,9 @@ STEPS = (
     Step("random", "tests/random/fuzz_pkt.py", "random programs of the language are compiled, inferred, checked and run, and what they send is compared with the interpreter", ON_PROGRAM, share=0.25),
 )
 
+# What `rt ci` prints once a crate is proved.
+PROVED = re.compile(r"rt: (\w+) proved")
+
 # Where Debian's packages put modules, if another Python runs this.
 DEBIAN_PYTHON = pathlib.Path("/usr/lib/python3/dist-packages")
 
@@ -138,15 +146,56 @@ def words_of(step: Step, minutes: float) -> list[str]:
     return words + (["--seed", seed(), "--jobs", "1", "--seconds", f"{60 * minutes * step.share:.0f}"] if step.share else [])
 
 
-def run(step: Step, minutes: float, is_alone: bool) -> Ended:
+class Early:
+    """The wrong bodies while `rt ci` proves: those of a crate once the libraries below it are proved, with the lowest priority, so they take the
+    processors that no proof uses. When `rt ci` has ended this ends, too, and the step tries what is left."""
+
+    def __init__(self, step: Step, room: pathlib.Path) -> None:
+        self.proved, self.done, self.used = room / "proved", room / "done", 0.0
+        self.proved.touch()
+        words, around = [*words_of(step, 0), "--early", str(self.proved), "--done", str(self.done)], os.environ | {"TMPDIR": str(room)}
+        self.started = subprocess.Popen(words, cwd=TOP, env=around, stdout=subprocess.DEVNULL, stderr=subprocess.DEVNULL, start_new_session=True)
+
+    def see(self, row: str) -> None:
+        """Notes the crate that this line of `rt ci` says is proved, if it does."""
+        if found := PROVED.fullmatch(row.rstrip("\n")):
+            with self.proved.open("a") as file:
+                file.write(f"{found[1]}\n")
+
+    def end(self) -> None:
+        """Ends it, and says how many were refused."""
+        with contextlib.suppress(ProcessLookupError):
+            os.killpg(self.started.pid, signal.SIGKILL)
+        _, status, usage = os.wait4(self.started.pid, 0)
+        self.started.returncode, self.used = os.waitstatus_to_exitcode(status), usage.ru_utime + usage.ru_stime
+        refused = len(self.done.read_text().split()) if self.done.exists() else 0
+        print(f"tests/planted.py: {refused} refused while rt ci ran, {self.used:.0f} s of processor time", flush=True)
+
+
+@contextlib.contextmanager
+def begun_early(groups: tuple[str, ...]) -> Iterator[Early | None]:
+    """The wrong bodies beside `rt ci`, where both are asked for."""
+    with tempfile.TemporaryDirectory(prefix="run-", ignore_cleanup_errors=True) as room:
+        early = Early(next(it for it in STEPS if it.group == "bodies"), pathlib.Path(room)) if {"proofs", "bodies"} <= {*groups} else None
+        try:
+            yield early
+        finally:
+            if early and early.started.returncode is None:
+                early.end()
+
+
+def run(step: Step, minutes: float, is_alone: bool, early: Early | None = None) -> Ended:
     """Runs a step. What it prints is printed as it comes, or together at the end where others run beside it."""
     begun, words, rows, last = time.monotonic(), words_of(step, minutes), [], collections.deque(maxlen=LAST)
+    words += ["--done", str(early.done)] if early and step.group == "bodies" else []
     print(f"{step.script} begins, {(begun - BEGUN) / 60:.1f} minutes into the run", flush=True)
     # (one crate for each processor: the estimate of memory of `rt ci` is twice what the largest takes, and would leave processors idle)
     around = os.environ | ({"RT_JOBS": str(PROCESSORS)} if step.script == "rt ci" else {})
     with subprocess.Popen(words, cwd=TOP, env=around, stdout=subprocess.PIPE, stderr=subprocess.STDOUT, text=True, errors="replace") as started:
         for row in started.stdout:
             last.append(row)
+            if early and step.script == "rt ci":
+                early.see(row)
             if is_alone:
                 print(row, end="", flush=True)
             else:
@@ -161,21 +210,23 @@ def run(step: Step, minutes: float, is_alone: bool) -> Ended:
     return ended
 
 
-def in_turn(steps: list[Step], minutes: float) -> list[Ended]:
+def in_turn(steps: list[Step], minutes: float, early: Early | None = None) -> list[Ended]:
     """Runs steps one after another, up to the first that fails."""
     ended: list[Ended] = []
     for step in steps:
         if not any(it.status for it in ended):
-            ended.append(run(step, minutes, True))
+            ended.append(run(step, minutes, True, early))
+            if early and step.script == "rt ci":
+                early.end()
     return ended
 
 
-def side_by_side(steps: list[Step], minutes: float) -> list[Ended]:
+def side_by_side(steps: list[Step], minutes: float, early: Early | None = None) -> list[Ended]:
     """Runs steps side by side, the longest first, and then by themselves those that failed: what lacked time or memory passes there."""
     ended, named = [], {it.script for it in steps}
     longest = sorted((it for it in steps if it.after not in named), key=lambda it: it.seconds + 60 * minutes * it.share, reverse=True)
     with concurrent.futures.ThreadPoolExecutor(PROCESSORS) as pool:
-        running = {pool.submit(run, it, minutes, len(steps) == 1): it for it in longest}
+        running = {pool.submit(run, it, minutes, len(steps) == 1, early): it for it in longest}
         while running:
             for done in concurrent.futures.wait(running, return_when=concurrent.futures.FIRST_COMPLETED).done:
                 step = running.pop(done)
@@ -184,7 +235,7 @@ def side_by_side(steps: list[Step], minutes: float) -> list[Ended]:
     failed = [it.script for it in ended if it.status]
     if failed:
         print(f"run: failed beside others, and run once more by themselves: {', '.join(failed)}", flush=True)
-    return [it for it in ended if not it.status] + in_turn([it for it in steps if it.script in failed], minutes)
+    return [it for it in ended if not it.status] + in_turn([it for it in steps if it.script in failed], minutes, early)
 
 
 # The groups, in the order in which they run, and how.
@@ -213,13 +264,15 @@ def main() -> int:
         print("run: docs/developing/testing.md has another table than tests/run.py --list")
         return 1
     groups, begun, used = asked.groups or GROUPS, time.monotonic(), 0.0
-    for runs, named in PHASES:
-        ended = runs([it for it in STEPS if it.group in groups and it.group in named], asked.minutes)
-        used += sum(it.used for it in ended)
-        if failed := [it for it in ended if it.status]:
-            for it in failed:
-                print(f"run: {it.script} failed with status {it.status}, and printed last:\n{''.join(it.last)}", end="")
-            return 1
+    with begun_early(groups) as early:
+        for runs, named in PHASES:
+            ended = runs([it for it in STEPS if it.group in groups and it.group in named], asked.minutes, early)
+            used += sum(it.used for it in ended)
+            if failed := [it for it in ended if it.status]:
+                for it in failed:
+                    print(f"run: {it.script} failed with status {it.status}, and printed last:\n{''.join(it.last)}", end="")
+                return 1
+    used += early.used if early else 0.0
     print(f"run: {(time.monotonic() - begun) / 60:.1f} minutes by the clock, {used / 60:.1f} of processor time, on {PROCESSORS} processors")
     for tool, package, what in TOOLS:
         if not is_found(tool):

@@ -5,6 +5,7 @@ tried.
 Usage: tests/proofs/planted_test.py   (by hand; over the libraries that `rt ci` or `rt all check` leaves, some five minutes)
 The harmless bodies are tests/proofs/harmless/CRATE/*.edit: each only rephrases the code. Exits with 1 if one of them is refused, or a wrong body
 beside them is not, or an edit that cannot be made is tried."""
+import argparse
 import contextlib
 import io
 import pathlib
@@ -68,7 +69,7 @@ def main() -> int:
         crate = CRATES[folder.name]
         harmless = [Edit(crate, it) for it in sorted(folder.glob("*.edit"))]
         wrong = [Edit(crate, it) for it in sorted((crate.folder / "planted").glob("*.edit"))[:BESIDE]]
-        tally = try_crate(crate, harmless + wrong, is_alone=False)
+        tally = try_crate(crate, harmless + wrong, argparse.Namespace(alone=False, early=None, done=None))
         is_well = (sorted(tally.passed), tally.refused, tally.unfit) == (sorted(it.name for it in harmless), len(wrong), [])
         print(f"{crate.name}: {len(tally.passed)} of {len(harmless)} harmless bodies reported, {tally.refused} of {len(wrong)} wrong ones refused")
         failed += not is_well
