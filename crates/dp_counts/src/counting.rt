@@ -105,6 +105,10 @@ impl<'a> Counting<'a> {
     }
 
     /// The counts that have names.
+    ///
+    /// # Errors
+    ///
+    /// `AllocError` if memory is refused.
     pub fn named(&self, alloc: Global) -> Result<Vec<NamedCount<'a>>, AllocError> {
         named_counts(alloc, &self.counts, self.sources.as_slice())
     }
@@ -120,6 +124,10 @@ impl<'a> Counting<'a> {
 }
 
 /// Writes the programs of a run with their counts, the sums for each table and each ring, and the least free buffers of each pool.
+///
+/// # Errors
+///
+/// Those of writing into `out`: memory is refused.
 pub fn write_listing(counting: &Counting<'_>, env: &Env, out: &mut Vec<u8>) -> io::Result<()>
     ensures { (levels : HowFull) × OnOk result (out.new.items ≡ out.old.items
         ++ counts_text counting.now.counts levels env.now counting.now.sources.items) }
@@ -178,6 +186,10 @@ pub fn say_refusals(what: &str, was: &str, numbers: [u64; 8], out: &mut Text) {
 }
 
 /// Says the counts by the lines of the sources.
+///
+/// # Errors
+///
+/// `AllocError` if memory is refused.
 pub fn say_lines(alloc: Global, counting: &Counting<'_>, out: &mut Text) -> Result<(), AllocError> {
     for source in counting.sources.as_slice() {
         let (node, file) = (NodeName(source.node), source_name(source));

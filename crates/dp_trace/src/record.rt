@@ -43,6 +43,10 @@ pub struct Record<'a> {
 
 impl<'a> Record<'a> {
     /// The programs of a pipeline, and no record yet.
+    ///
+    /// # Errors
+    ///
+    /// `AllocError` if memory is refused.
     pub fn new(alloc: Global, pipeline: &Pipeline, shown: Shown<'a>) -> Result<Self, AllocError> {
         let mut programs = Vec::new(alloc);
         for k in 0..pipeline.nodes() {
