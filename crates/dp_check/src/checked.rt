@@ -87,7 +87,7 @@ impl Checked {
 }
 
 /// Where a program is refused: the lowest failing label, from 0, and the first rule that fails there.
-#[derive(Clone, Copy, Debug, PartialEq, Eq)]
+#[derive(Clone, Copy, PartialEq, Eq)]
 pub struct Fault {
     pub label: u16,
     pub rule: Rule,

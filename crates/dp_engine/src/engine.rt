@@ -28,7 +28,7 @@ pub use pass::Pass;
 use std::marker::Model;
 
 /// The outcome of a record: received, or why it was dropped.
-#[derive(Clone, Copy, Debug, PartialEq, Eq)]
+#[derive(Clone, Copy, PartialEq, Eq)]
 pub enum Outcome {
     /// Received; the port's program ran on it.
     Got,
@@ -39,7 +39,7 @@ pub enum Outcome {
 }
 
 /// What a turn did.
-#[derive(Clone, Copy, Debug, PartialEq, Eq)]
+#[derive(Clone, Copy, PartialEq, Eq)]
 pub struct Turn {
     /// The outcome of the record.
     pub outcome: Outcome,
@@ -52,7 +52,7 @@ pub struct Turn {
 }
 
 /// The writer failed.
-#[derive(Clone, Copy, Debug, PartialEq, Eq)]
+#[derive(Clone, Copy, PartialEq, Eq)]
 pub struct WriteFault {
     /// How many records were written whole before that.
     pub sent: u32,

@@ -2,7 +2,7 @@
 use arrayvec::ArrayVec;
 
 /// How far an input was read.
-#[derive(Clone, Copy, Debug, Default, PartialEq, Eq)]
+#[derive(Clone, Copy, Default, PartialEq, Eq)]
 pub enum InputState {
     /// Not to its end.
     #[default]
@@ -14,7 +14,7 @@ pub enum InputState {
 }
 
 /// The counts of a port, in records.
-#[derive(Clone, Copy, Debug, Default, PartialEq, Eq)]
+#[derive(Clone, Copy, Default, PartialEq, Eq)]
 pub struct PortReport {
     /// How many were received.
     pub received: u64,
@@ -29,7 +29,7 @@ pub struct PortReport {
 }
 
 /// The counts of a pool, in buffers.
-#[derive(Clone, Copy, Debug, Default, PartialEq, Eq)]
+#[derive(Clone, Copy, Default, PartialEq, Eq)]
 pub struct PoolReport {
     /// How many are free.
     pub free: u64,

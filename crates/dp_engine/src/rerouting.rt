@@ -2,7 +2,7 @@
 use dp_lpm::LpmError;
 
 /// Why a route is not changed.
-#[derive(Clone, Copy, Debug, PartialEq, Eq)]
+#[derive(Clone, Copy, PartialEq, Eq)]
 pub enum RouteFault {
     /// There is no table of this number.
     NoTable,

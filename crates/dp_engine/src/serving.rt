@@ -98,7 +98,7 @@ fn serve_one<K: CompiledPrograms, W: Watch>(
 }
 
 /// Counts of a turn's ring runs.
-#[derive(Clone, Copy, Debug, PartialEq, Eq)]
+#[derive(Clone, Copy, PartialEq, Eq)]
 pub(crate) struct Served {
     /// Runs, at most 32.
     pub runs: u8,

@@ -9,7 +9,7 @@ use dp_model::{NumberRegister, PacketRegister, Queue};
 use std::marker::Model;
 
 /// A packet, except its bytes.
-#[derive(Clone, Copy, Debug, PartialEq, Eq)]
+#[derive(Clone, Copy, PartialEq, Eq)]
 pub struct PacketShape {
     /// How many segments it has, 1 to 64.
     pub segments: u32,
@@ -22,7 +22,7 @@ pub struct PacketShape {
 }
 
 /// A segment of a packet.
-#[derive(Clone, Copy, Debug)]
+#[derive(Clone, Copy)]
 pub struct SegmentView<'a> {
     /// Its bytes.
     pub bytes: &'a [u8],

@@ -9,7 +9,7 @@ use std::fmt;
 use thiserror::Error;
 
 /// What is wrong with a line.
-#[derive(Clone, Copy, Debug, PartialEq, Eq)]
+#[derive(Clone, Copy, PartialEq, Eq)]
 pub enum Cause {
     /// A byte that no text may have: any but tab, newline, carriage return and 32 to 126. Bytes of comments count too.
     BadByte = 1,
@@ -74,7 +74,7 @@ impl fmt::Display for Cause {
 }
 
 /// The first fault of a text.
-#[derive(Clone, Copy, Debug, PartialEq, Eq)]
+#[derive(Clone, Copy, PartialEq, Eq)]
 pub struct Fault {
     /// The line, from 1; 0 means the whole text.
     pub line: usize,
@@ -92,6 +92,12 @@ impl fmt::Display for Fault {
         let line = self.line;
         let cause = self.cause;
         write!(f, "line {line}: {cause}")
+    }
+}
+
+impl fmt::Debug for Fault {
+    fn fmt<W: fmt::Write>(&self, f: &mut fmt::Formatter<W>) -> fmt::Result {
+        write!(f, "{self}")
     }
 }
 

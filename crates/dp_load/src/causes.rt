@@ -106,7 +106,7 @@ fn node_piece(node: Entry) -> Piece
 }
 
 /// The name of a node in texts, as `port 0` or `ring 3`.
-#[derive(Clone, Copy, Debug, PartialEq, Eq)]
+#[derive(Clone, Copy, PartialEq, Eq)]
 pub struct NodeName(pub Entry);
 
 impl fmt::Display for NodeName {
@@ -187,6 +187,12 @@ impl fmt::Display for PipeError {
     fn fmt<W: fmt::Write>(&self, f: &mut fmt::Formatter<W>) -> fmt::Result {
         let (first, second, third, last) = pieces_of(*self);
         write!(f, "{first}{second}{third}{last}")
+    }
+}
+
+impl fmt::Debug for PipeError {
+    fn fmt<W: fmt::Write>(&self, f: &mut fmt::Formatter<W>) -> fmt::Result {
+        write!(f, "{self}")
     }
 }
 

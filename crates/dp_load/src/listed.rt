@@ -8,7 +8,7 @@ use crate::files::Files;
 use std::alloc::Global;
 
 /// A file in memory.
-#[derive(Clone, Copy, Debug)]
+#[derive(Clone, Copy)]
 pub struct NamedBytes<'a> {
     /// The name under which it is fetched.
     pub name: &'a str,
@@ -17,7 +17,7 @@ pub struct NamedBytes<'a> {
 }
 
 /// Files in memory; of two with the same name, the first counts.
-#[derive(Clone, Copy, Debug)]
+#[derive(Clone, Copy)]
 pub struct Listed<'a> {
     /// The files, in the order of the search.
     pub files: &'a [NamedBytes<'a>],

@@ -6,7 +6,7 @@ ghost use Rattle.dp_lpm.specs.Cells.{entry_in, IsStorable, at, overwritten};
 use crate::limits::{FIRST_GROUP, GROUP_DEPTH, HOPS, MAX_DEPTH, MAX_GROUPS};
 
 /// What an entry says about its addresses.
-#[derive(Clone, Copy, Debug, PartialEq, Eq)]
+#[derive(Clone, Copy, PartialEq, Eq)]
 pub enum TableEntry {
     /// No rule matches them.
     Empty,
@@ -17,7 +17,7 @@ pub enum TableEntry {
 }
 
 /// An entry in four bytes: 0 if it is empty; else a hop or a group in the lower three, and the depth, or 255 for a group, in the highest.
-#[derive(Clone, Copy, Debug)]
+#[derive(Clone, Copy)]
 pub struct Cell {
     pub bits: u32,
 }

@@ -12,7 +12,7 @@ use crate::limits::MAX_DEPTH;
 const PART: usize = 512;
 
 /// Addresses that begin with the first `depth` bits of `prefix` go to `hop`.
-#[derive(Clone, Copy, Debug)]
+#[derive(Clone, Copy)]
 pub struct Rule {
     pub prefix: u32,
     pub depth: u8,

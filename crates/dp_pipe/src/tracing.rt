@@ -37,7 +37,7 @@ pub trait Tracer: Watch {
 }
 
 /// Which records are traced.
-#[derive(Clone, Copy, Debug, PartialEq, Eq)]
+#[derive(Clone, Copy, PartialEq, Eq)]
 pub struct Traced {
     /// The maximum number of records: up to [`MAX_RUN_TURNS`].
     pub records: u32,
