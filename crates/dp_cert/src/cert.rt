@@ -9,7 +9,7 @@ use dp_model::Row;
 use std::marker::Model;
 
 /// The version of a certificate. In version 1 no register belongs to a sharing group.
-#[derive(Clone, Copy, PartialEq, Eq)]
+#[derive(Clone, Copy)]
 pub enum Version {
     One,
     Two,

@@ -87,7 +87,7 @@ impl Checked {
 }
 
 /// Where a program is refused: the lowest failing label, from 0, and the first rule that fails there.
-#[derive(Clone, Copy, PartialEq, Eq)]
+#[derive(Clone, Copy)]
 pub struct Fault {
     pub label: u16,
     pub rule: Rule,

@@ -19,7 +19,7 @@ use dp_lang::Program;
 use dp_model::{Entry, Env, Instr, Row};
 
 /// Why a program is refused: the lowest failing label, from 0, and why the first rule that fails there does.
-#[derive(Clone, Copy, PartialEq, Eq)]
+#[derive(Clone, Copy)]
 pub struct Diagnosis {
     pub label: u16,
     pub reason: Reason,

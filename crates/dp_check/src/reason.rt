@@ -6,7 +6,7 @@ ghost use Rattle.dp_check.specs.Diagnoses.{rule_of};
 use dp_model::{Fact, Measure, NumberRegister, PacketRegister, Rule};
 
 /// A part of a row that another row wants and this row does not entail.
-#[derive(Clone, Copy, PartialEq, Eq)]
+#[derive(Clone, Copy)]
 pub enum Gap {
     /// The certificate says that control never reaches the instruction.
     Dead,
@@ -33,7 +33,7 @@ pub enum Gap {
 }
 
 /// Why a rule fails at an instruction: what is known there, and what the rule wants.
-#[derive(Clone, Copy, PartialEq, Eq)]
+#[derive(Clone, Copy)]
 pub enum Reason {
     /// J1: the certificate has more or fewer rows than the program has instructions.
     RowCount {

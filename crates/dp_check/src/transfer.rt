@@ -10,7 +10,7 @@ use crate::packet_facts::{allocated, appended, cut_after, cut_in_front, prepende
 use dp_model::{Env, Instr, Lead, MAX_HOP, Measure, Row, by_instr};
 
 /// The successors of an instruction.
-#[derive(Clone, Copy, PartialEq, Eq)]
+#[derive(Clone, Copy)]
 pub enum Leads {
     Ends,
     One(Lead),

@@ -14,7 +14,7 @@ const ROUNDS: u32 = 257;
 const RING_RUNS: u64 = 32;
 
 /// What one node run of a program can take at most.
-#[derive(Clone, Copy, PartialEq, Eq)]
+#[derive(Clone, Copy)]
 pub struct Cost {
     /// The greatest number of instructions, 1 to 263,168: the longest way through the program, or 257 times its length if it can jump back.
     pub steps: u32,

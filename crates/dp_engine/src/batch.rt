@@ -2,7 +2,7 @@
 
 /// A record that a port sent. Its bytes are in the array of bytes of the same pass.
 #[repr(C)]
-#[derive(Clone, Copy, Default, PartialEq, Eq)]
+#[derive(Clone, Copy, Default)]
 pub struct SentRecord {
     /// The time of the pass, as the caller gave it.
     pub time: u64,
@@ -15,7 +15,7 @@ pub struct SentRecord {
 }
 
 /// How much a batch holds, or has room for.
-#[derive(Clone, Copy, Default, PartialEq, Eq)]
+#[derive(Clone, Copy, Default)]
 pub struct BatchSize {
     /// The number of records, or the room for them.
     pub records: usize,

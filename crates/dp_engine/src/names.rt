@@ -5,7 +5,7 @@ ghost use Rattle.dp_mbuf.specs.declared.limits.TheConstants.{MAX_POOLS};
 ghost use Rattle.dp_engine.specs.Names.{numbered, pool_name, ring_name};
 
 /// Whether a ring is the transmit list of a port.
-#[derive(Clone, Copy, PartialEq, Eq)]
+#[derive(Clone, Copy)]
 pub(crate) enum ListKind {
     Port,
     Ring,

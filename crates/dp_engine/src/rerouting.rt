@@ -2,7 +2,7 @@
 use dp_lpm::LpmError;
 
 /// Why a route is not changed.
-#[derive(Clone, Copy, PartialEq, Eq)]
+#[derive(Clone, Copy)]
 pub enum RouteFault {
     /// There is no table of this number.
     NoTable,

@@ -98,7 +98,7 @@ fn serve_one<K: CompiledPrograms, W: Watch>(
 }
 
 /// Counts of a turn's ring runs.
-#[derive(Clone, Copy, PartialEq, Eq)]
+#[derive(Clone, Copy)]
 pub(crate) struct Served {
     /// Runs, at most 32.
     pub runs: u8,

@@ -6,7 +6,7 @@ use crate::view::View;
 use dp_model::Entry;
 
 /// Where an instruction led.
-#[derive(Clone, Copy, PartialEq, Eq)]
+#[derive(Clone, Copy)]
 pub enum Way {
     /// To the instruction after it.
     On,

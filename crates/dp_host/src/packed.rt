@@ -11,7 +11,7 @@ use std::alloc::Global;
 pub const MAX_FILES: u32 = 64;
 
 /// Why a buffer's files are not read.
-#[derive(Clone, Copy, PartialEq, Eq)]
+#[derive(Clone, Copy)]
 pub enum Unread {
     /// The buffer is malformed.
     Form,

@@ -106,7 +106,7 @@ fn node_piece(node: Entry) -> Piece
 }
 
 /// The name of a node in texts, as `port 0` or `ring 3`.
-#[derive(Clone, Copy, PartialEq, Eq)]
+#[derive(Clone, Copy)]
 pub struct NodeName(pub Entry);
 
 impl fmt::Display for NodeName {

@@ -22,7 +22,7 @@ use dp_model::{Entry, Env};
 use std::alloc::Global;
 
 /// Where the certificates of nodes come from.
-#[derive(Clone, Copy, PartialEq, Eq)]
+#[derive(Clone, Copy)]
 pub enum How {
     /// Named ones are read, and the others are inferred.
     Given,

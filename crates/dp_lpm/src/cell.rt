@@ -6,7 +6,7 @@ ghost use Rattle.dp_lpm.specs.Cells.{entry_in, IsStorable, at, overwritten};
 use crate::limits::{FIRST_GROUP, GROUP_DEPTH, HOPS, MAX_DEPTH, MAX_GROUPS};
 
 /// What an entry says about its addresses.
-#[derive(Clone, Copy, PartialEq, Eq)]
+#[derive(Clone, Copy)]
 pub enum TableEntry {
     /// No rule matches them.
     Empty,

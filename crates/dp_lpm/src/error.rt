@@ -3,7 +3,7 @@
 use thiserror::Error;
 
 /// The allocator refused the memory for a table.
-#[derive(Clone, Copy, Debug, PartialEq, Eq, Error)]
+#[derive(Clone, Copy, Debug, Error)]
 #[error("not enough memory")]
 pub struct Memory;
 

@@ -22,7 +22,7 @@ pub enum Measure {
 }
 
 /// The bytes or the room that a packet must have.
-#[derive(Clone, Copy, PartialEq, Eq)]
+#[derive(Clone, Copy)]
 pub struct Bytes {
     /// Which room or which length.
     pub part: Measure,
@@ -33,7 +33,7 @@ pub struct Bytes {
 }
 
 /// What is needed of the register that gets a packet, or of the registers of two packets.
-#[derive(Clone, Copy, PartialEq, Eq)]
+#[derive(Clone, Copy)]
 pub enum Target {
     /// This register is empty.
     Vacant(PacketRegister),
@@ -42,7 +42,7 @@ pub enum Target {
 }
 
 /// Which part of a packet is written, and so must have one reference.
-#[derive(Clone, Copy, PartialEq, Eq)]
+#[derive(Clone, Copy)]
 pub enum Written {
     /// The first segment.
     Head,
@@ -51,7 +51,7 @@ pub enum Written {
 }
 
 /// What rules J4 to J7 ask of the row before an instruction, and the label that it names.
-#[derive(Clone, Copy, PartialEq, Eq)]
+#[derive(Clone, Copy)]
 pub struct Needs {
     /// This register holds a packet.
     pub packet: Option<PacketRegister>,

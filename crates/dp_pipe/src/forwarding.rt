@@ -26,7 +26,7 @@ pub const MAX_RUN_TURNS: u64 = 8 * MAX_RECORDS as u64;
 pub(crate) const ROUNDS: u32 = MAX_RECORDS + 1;
 
 /// Why a run stopped.
-#[derive(Clone, Copy, PartialEq, Eq)]
+#[derive(Clone, Copy)]
 pub enum RunCause {
     /// The allocator refused memory. Nothing was read or written.
     Memory,

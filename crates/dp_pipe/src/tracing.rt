@@ -37,7 +37,7 @@ pub trait Tracer: Watch {
 }
 
 /// Which records are traced.
-#[derive(Clone, Copy, PartialEq, Eq)]
+#[derive(Clone, Copy)]
 pub struct Traced {
     /// The maximum number of records: up to [`MAX_RUN_TURNS`].
     pub records: u32,

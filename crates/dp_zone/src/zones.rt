@@ -21,7 +21,7 @@ use std::marker::Model;
 pub const MAX_ZONES: usize = 64;
 
 /// Where a zone is: its offset, in bytes from the region's start, and its length in bytes.
-#[derive(Clone, Copy, PartialEq, Eq)]
+#[derive(Clone, Copy)]
 pub struct ZoneInfo {
     pub offset: u32,
     pub len: u32,

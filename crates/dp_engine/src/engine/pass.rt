@@ -12,7 +12,7 @@ use crate::engine::{Engine, Turn};
 use dp_model::{PoolSpec, Queue};
 
 /// What a pass did.
-#[derive(Clone, Copy, PartialEq, Eq)]
+#[derive(Clone, Copy)]
 pub struct Pass {
     /// What became of the record, and the node runs.
     pub turn: Turn,
