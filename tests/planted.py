@@ -1,7 +1,7 @@
 #!/usr/bin/env python3
 """Tries wrong bodies that the prover must refuse: crates/NAME/planted/*.edit and planted/always/*.edit, each written as an edit of
 must-fail/ is. Those of planted/always are the ones that matter most: the gate tries them each time, as `rt ci` tries those of must-fail/,
-which only crates that are proved in less than a minute have, since `rt ci` proves the whole crate once more before the first.
+which only dp_ring has, since `rt ci` proves the whole crate once more before the first.
 
 Usage: tests/planted.py [--jobs N] [--alone] [--must-fail] [--since COMMIT] [--part N OF] [--most N] [CRATE ..]
        tests/planted.py [--jobs N] [--alone] FILE.edit ..
