@@ -111,7 +111,8 @@ def words_of(way: Way, it: Field, span: Span) -> Span:
     first, end = (span.bit - base) // 16 * 16, (span.end - base + 15) // 16 * 16
     words = Span(base + first, end - first, span.is_far)
     is_whole = (words.bits == 16 or words == span) and end <= 8 * way.headers[it.header].size
-    require(is_whole, way.at, f"{it.header}.{it.name} is neither within one 16-bit word of its header nor made of whole ones", "split it")
+    require(is_whole, way.at, f"{it.header}.{it.name} is neither within one 16-bit word of its header nor made of whole ones",
+            "split it; in place of a known header, declare one of your own for the same bytes, with fields of 16 or 32 bits")
     return words
 
 

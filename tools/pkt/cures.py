@@ -1,27 +1,29 @@
 """What to write in place of a word that is out of place: the usual slips of those who know C, P4, Python, nftables and tcpdump."""
-from collections.abc import Iterable
+from collections.abc import Iterable, Sequence
 from difflib import get_close_matches
 
 BRACES, LIST, RANGE = "what belongs to it is within braces: if c { drop }", "x in {1, 2} compares x with each", "a range comes after `in`: x in 1..5"
 COMPARE = "a sign is between two numbers, as ==, or `in`; what belongs to a condition is within braces"
 ITEMS, DEF = "a comma is between two items, and } after the last one", "def f() { .. } has no parameter, def f(a) { .. } has one"
-ASSIGN = "an = is before the value"
+ASSIGN, AFTER, UNIT = "an = is before the value", "after udp if udp.dport == 7", "a number has no unit: lengths are in bytes, and fields in bits"
+LOOKUP, ALONE = "let x = lookup ROUTES ipv4.dst", "statements stand alone, with no block around them"
 FIELD = "a field has its bits after a colon, as in a:8, and blanks before the next one"
 # The cures for these words out of place.
 CURES = {
     "=": "compare with ==",
     "/": "a prefix comes after `in`; there is no division, and >> n divides by 2^n; a comment begins with #",
     "!": "write `not`",
-    ";": "no sign ends a statement or a field",
+    ";": "no sign ends a statement or a field, and a comma is between two items",
     "&": "write `and`",
     "|": "write `or`",
     "-": "write x -= 1",
     "+": "write x += 1",
     "%": "there is no division, and x & 7 is the rest of x by 8",
-    ">": "a number is missing before it; a field has a point, as in ipv4.ttl",
+    ">": "a number is missing before it; a field has a point, as in ipv4.ttl, and <> is !=",
     ":": "an Ethernet address has six groups, and an IPv6 address eight, or :: for groups of 0",
     "?": "if c { x = 1 } else { x = 2 }",
-    ",": "leave it out, or write `and` between conditions",
+    ",": "leave it out; `and` is between conditions, and / between the headers of a path; a clone is sent to a second port",
+    ")": "no parenthesis is open here, or nothing is in it",
     ".": "a field has no parts, and tcp.flags & 2 is a bit of one; an IPv4 address has four parts",
     "{": f"a block comes after a condition; {LIST}",
     "}": "an item is missing before it: a list has one at least, and no comma at its end, and a range has two ends",
@@ -33,8 +35,10 @@ CURES = {
     "the end of the text": "a block ends with }",
     "else": "an `else` comes after its statement: if, need, let with lookup, send, queue, clone or new",
     "lookup": "let x = lookup ..",
-    "not": "not x in {1, 2}",
-    "is": "if ipv4 { .. } asks whether there is the header",
+    "not": "not x in {1, 2}, and if not udp { drop }",
+    "is": "compare with ==; if ipv4 { .. } asks whether there is the header",
+    "to": "send c to 1; push eth { type = 5 } on h; x in 1..5",
+    "clone": "clone c from 1", "new": "new h from 0",
     "set": "write x = 5",
     "this": "send this to 1, or only send 1",
     "port": "ports 4 says how many ports there are, and port UP = 1 names one",
@@ -45,7 +49,7 @@ SLIPS = {
     "write 1": "true True",
     "write 0": "false False None NULL",
     "write `else if`": "elif elsif elseif",
-    "let x = .. makes a variable": "int uint u8 u16 u32 u64 uint8_t uint16_t uint32_t uint64_t var bool local",
+    "let x = .. makes a variable": "int uint u8 u16 u32 u64 uint8_t uint16_t uint32_t uint64_t var bool local bit unsigned signed long short char mut",
     "drop, or send port, ends the program": "return exit",
     "if x == 1 { .. } else if x == 2 { .. } has a case for each number": "switch case match",
     "while c { .. } repeats statements": "for loop do",
@@ -53,21 +57,29 @@ SLIPS = {
     "def f() { .. } gives a block a name, and f() is its statement": "function func fn action void",
     "const WEB = 80 names a number": "define static enum",
     'include "net.pkt"': "import use",
-    "header mine { kind:8 left:24 } after eth if eth.type == 0x88b5": "struct typedef parser extract follows on when",
-    "statements stand alone, with no block around them": "apply control main",
+    "header mine { kind:8 left:24 } after eth if eth.type == 0x88b5":
+        "struct typedef parser extract follows on when state transition select",
+    ALONE: "apply control main filter",
     "statements begin with let, if, while, need, drop, send: send port sends the packet to where it came from, and send 1 to port 1":
         "accept pass allow permit forward redirect output",
     "write drop": "reject deny block discard mark_to_drop",
     "count web counts packets, and nothing is printed": "log print printf printk counter",
     "mend ipv4.dst = 10.0.0.1 changes an address and its checksums": "dnat snat nat masquerade",
-    "a rule is as if tcp.dport == 80 { drop }": "host src dst ip ip6 ether rule",
+    "a rule is as if tcp.dport == 80 { drop }": "host src dst ip ip6 ether rule iptables nft add",
+    "port == 0 asks where the packet came from, and send 1 sends it": "meta iif iifname oif oifname in_port out_port ingress_port egress_port egress_spec",
+    "no program keeps anything from packet to packet; tcp.flags & 16 is in all but the first one": "ct conntrack stateful register meter limit quota",
+    "def f() { .. } gives a block a name; nothing else is jumped to": "goto jump call label",
+    "if length > 100 asks for the length": "greater less",
+    "compare with ==, !=, <, >, <= or >=": "eq ne neq gt lt ge le equals",
+    "x ^ y is of numbers; of conditions: a and not b or b and not a": "xor",
+    UNIT: "bytes byte bits octets kb ms seconds packets pps",
     "a prefix is as ipv4.src in 10.0.0.0/8": "mask net",
     "a name has no sign before it": "@ $",
     "a list is within braces, x in {1, 2}": "]",
     "a number is missing before it": "* == != < <= >=",
     "a text is within plain double quotes": "` \u2018 \u2019 \u201c \u201d",
     "type a plain minus sign": "\u2013 \u2014 \u2212",
-    RANGE: "to between ..",
+    RANGE: "between ..",
     BRACES: "then",
 }  # fmt: skip
 CURES |= {word: cure for cure, words in SLIPS.items() for word in words.split()} | {"\u00a0": "type a plain blank"}
@@ -75,7 +87,9 @@ CURES |= {word: cure for cure, words in SLIPS.items() for word in words.split()}
 WANTED = {
     "{": BRACES, "{:": BRACES, "{the end of the text": BRACES, "{,": "a list is within braces: x in {1, 2}", "{)": "no parenthesis is open here",
     "{number": COMPARE, "{ip": COMPARE, "}": ITEMS, "}{": ITEMS, ")": "the parenthesis before it is open", "),": LIST, "(": DEF, "({": DEF,
-    "=": ASSIGN, "={": ASSIGN, "=:": ASSIGN, "from": "clone c from 1", "before": "chain h before this", "for": "length v * 4 for v:8 in 5..15",
+    "=": ASSIGN, "={": ASSIGN, "=:": ASSIGN, "===": ASSIGN, "from": "clone c from 1, or new h from 1", "before": "chain h before this",
+    "for": "length v * 4 for v:8 in 5..15", ":": "length v * 4 for v:8 in 5..15", "if": AFTER, "if.": AFTER, ".": "over ipv4.src ipv4.dst names fields",
+    "{to": RANGE,
     "after": "extend ipv4 after mine if mine.type == 5",
 }  # fmt: skip
 # What others call the known headers, and their fields: of these the first one that a header has.
@@ -99,7 +113,7 @@ NUMBERS = {
     "dns": 53, "ef": 46, **{f"cs{k}": 8 * k for k in range(8)}, **{f"af{k}{n}": 8 * k + 2 * n for k in range(1, 5) for n in range(1, 4)},
 }  # fmt: skip
 LENGTHS, ORDERS = ("len", "size", "pkt_len", "frame_len", "packet_length"), ("htons", "ntohs", "htonl", "ntohl", "bpf_htons", "bpf_ntohs")
-ASKED = ("isvalid", "valid", "present", "exists")
+ASKED, BEHIND = ("isvalid", "valid", "present", "exists"), ("options", "option", "opts", "payload", "data", "body", "rest")
 
 
 def cure_of(word: str, known: Iterable[str] = (), wanted: str = "", kind: str = "") -> str:
@@ -128,6 +142,8 @@ def field_meant(header: str, word: str, fields: Iterable[str]) -> str:
         return f"if {header} {{ .. }}"
     if word.lower() in BITS.get(header, {}):
         return f"{header}.flags & {BITS[header][word.lower()]}"
+    if word.lower() in BEHIND:
+        return f"header mine {{ a:8 }} after {header} if {header}.{next(iter(fields))} == 5, for what is behind it"
     if word.lower() == "port" and "sport" in fields:
         return f"{header}.sport or {header}.dport"
     others = [name for names, words in FIELDS.items() if word.lower() in words.split() for name in names.split() if name in fields]
@@ -135,7 +151,7 @@ def field_meant(header: str, word: str, fields: Iterable[str]) -> str:
     return f"{header}.{found}" if found else ""
 
 
-def number_meant(word: str, fields: Iterable[tuple[str, str]], numbers: Iterable[str]) -> str:
+def number_meant(word: str, fields: Sequence[tuple[str, str]], numbers: Iterable[str]) -> str:
     """What to write for a name that means nothing. The fields are those of all headers."""
     if word in (*SLIPS["write 1"].split(), *SLIPS["write 0"].split()):
         return CURES[word]
@@ -146,7 +162,8 @@ def number_meant(word: str, fields: Iterable[tuple[str, str]], numbers: Iterable
     if word in ("range", "to"):
         return RANGE if word == "range" else "send 1, or send c to 1 for another packet"
     others = [f"{header}.{name}" for header, name in fields if name == word]
-    near = " or ".join(others[:3]) or meant(word, numbers)
+    header = next((it for it, _ in fields if it.lower() == word.lower() or word.lower() in HEADERS.get(it, "").split()), "")
+    near = " or ".join(others[:3]) or header or meant(word, numbers)
     value = NUMBERS.get(word.lower())
     one = f"{value:#06x}" if value is not None and value > 1023 else value
     cure = f"let {word} = .. makes one, to the end of its block, and const {word} = .. a constant"

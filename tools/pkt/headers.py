@@ -145,7 +145,8 @@ def check(header: Header, headers: Headers) -> None:
     at, size = header.at, header.size
     for name, span in header.fields.items():
         require(span.bits, at, f"the field {name} has no bits", "a field has 1 to 64 bits, or 128")
-        require(span.bits <= 64 and len(span.bytes) <= 8, at, f"the field {name} does not lie within 8 bytes", "split it into two")
+        require(span.bits <= 64 and len(span.bytes) <= 8, at, f"the field {name} does not lie within 8 bytes",
+                "a field has at most 64 bits: two or more fields have the rest" if span.bits > 64 else "split it into two")
         require(span.end <= 8 * size, at, f"the field {name} goes past the end of the header", f"the header has {8 * size} bits, and the first one is 0")
     for other, condition in header.follows.items():
         for it in parts(condition):

@@ -3,9 +3,9 @@ import re
 from itertools import pairwise
 from pathlib import Path as File
 
-from .cures import cure_of, field_meant, header_meant
+from .cures import RANGE, cure_of, field_meant, header_meant
 from .headers import Headers
-from .syntax import Path, Place, Row, SourceError, require
+from .syntax import PORT, Path, Place, Row, SourceError, require
 
 WORD = re.compile(
     r"(?P<blank>[ \t\r]+|\#[^\n]*)|(?P<line>\n)"
@@ -43,6 +43,11 @@ def require_word(holds: object, at: Place, message: str, kind: str = "") -> None
         raise SourceError(at, message, cure_of(at.word, RESERVED, kind=kind))
 
 
+def is_right_after(before: Place, at: Place) -> bool:
+    """Whether a word stands right after another one, without a blank between them."""
+    return at[:2] == (before.line, before.column + len(before.word))
+
+
 def no_word(kind: str, at: Place) -> SourceError:
     """The error for what is no word."""
     if kind == "foreign":
@@ -51,10 +56,11 @@ def no_word(kind: str, at: Place) -> SourceError:
 
 
 class Lexer:
-    """Reads the words of one text; headers may be declared already. `rows` has its lines, from 1 on, and then those of the files it includes."""
+    """Reads the words of one text; headers may be declared already. `names` has the meaning of each name, and `rows` its lines, from 1 on, and then those of the files it includes."""
 
     def __init__(self, text: str, headers: Headers) -> None:
         self.words, self.next, self.headers = words_of(text), 0, headers
+        self.names: dict[str, str] = {**dict.fromkeys(headers, "a header"), PORT: "a variable"}
         self.rows = [Row(None, number, row) for number, row in enumerate(["", *text.split("\n")])]
 
     def insert(self, path: File, text: str) -> None:
@@ -91,7 +97,7 @@ class Lexer:
             raise no_word(self.kind, place)
         if wanted and not self.sees(wanted):
             # A colon right before a word is one of an address.
-            is_in_address = place.word == ":" and self.place(1)[:2] == (place.line, place.column + 1)
+            is_in_address = place.word == ":" and is_right_after(place, self.place(1))
             cure = cure or cure_of(place.word, RESERVED, "" if is_in_address else wanted, self.kind)
             raise SourceError(place, f"{wanted!r} is wanted here, and this is {place.word!r}", cure)
         self.next = min(self.next + 1, len(self.words) - 1)
@@ -102,11 +108,37 @@ class Lexer:
         if self.kind in WRONG:
             return no_word(self.kind, self.place())
         for (other, before), (kind, at) in pairwise(self.words[max(self.next - 2, 0) : self.next + 1]):
-            is_joined = at[:2] == (before.line, before.column + len(before.word)) and other in NUMBERS and kind == "name"
+            is_joined = is_right_after(before, at) and other in NUMBERS and kind == "name"
             if is_joined and error.at == at:
                 whole = before._replace(word=before.word + at.word)
                 return SourceError(whole, f"{whole.word} is no number", "a number is decimal, or hexadecimal as 0x1f, and has only digits")
+        error.cure = self.cure_of_joined(error.at) or error.cure
         return error
+
+    def around(self, at: Place) -> list[tuple[str, Place]]:
+        """A word, the two before it and the two after it, each with its kind."""
+        index, end = next((k for k, (_, it) in enumerate(self.words) if it == at), 0), ("end", Place(0, 0, ""))
+        return [self.words[it] if 0 <= it < len(self.words) else end for it in range(index - 2, index + 3)]
+
+    def cure_of_joined(self, at: Place) -> str:
+        """The cure for words that stand right after one another and were meant as one: a name with a dash, a number with a point or a colon."""
+        (_, first), (before, left), (kind, _), (after, right), (beyond, last) = self.around(at)
+        is_left, is_right = is_right_after(left, at), is_right_after(at, right)
+        if at.word == "-" and is_left and is_right and before == "name" and after in ("name", "number"):
+            return f"a name has letters, digits and _, and no dash: {left.word}_{right.word}"
+        if kind == "name" and right.word == "-" and is_right and beyond == "name" and is_right_after(right, last) and self.names_nothing(at):
+            return f"a name has letters, digits and _, and no dash: {at.word}_{last.word}"
+        if at.word == "." and (left.word == ".." or before == after == "number" and first.word == "in" and last.word not in (".", "/")):
+            return RANGE
+        if at.word == "." and before == after == "number" and is_left and is_right and last.word not in (".", "/"):
+            return "a number is a whole one; an IPv4 address has four parts"
+        if at.word == ":" and before == after == "number" and first.word == "in" and last.word != ":":
+            return RANGE
+        return ""
+
+    def names_nothing(self, at: Place) -> bool:
+        """Whether a word is the name of nothing that was declared."""
+        return at.word not in RESERVED and at.word not in self.names
 
     def may(self, word: str) -> bool:
         """Whether the next word is this one; takes it then."""
@@ -129,7 +161,8 @@ class Lexer:
 
     def known_headers(self, word: str) -> str:
         """The headers, and the one that may be meant by a word, for an error."""
-        near, is_name = header_meant(word, self.headers), word.isidentifier() and word not in RESERVED
+        is_name = word.isidentifier() and word not in RESERVED
+        near = header_meant(word, self.headers) if word.isidentifier() else ""
         declared = f"; header {word} {{ a:8 }} after udp if udp.dport == 7, before it, declares one"
         return f"{f'did you mean {near}? ' if near else ''}the known headers are {', '.join(self.headers)}{'' if near or not is_name else declared}"
 

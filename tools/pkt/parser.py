@@ -7,7 +7,7 @@ from dataclasses import dataclass, field, replace
 from pathlib import Path as File
 from typing import NamedTuple
 
-from .cures import CURES, FIELD, cure_of, meant, number_meant
+from .cures import ALONE, CURES, FIELD, LOOKUP, WANTED, cure_of, meant, number_meant
 from .headers import Header, Headers, Span, check
 from .lexer import RESERVED, Lexer, require_word
 from .syntax import (
@@ -42,6 +42,8 @@ STATEMENTS: dict[str, tuple[type[Node], str]] = {
 EACH = "if x == 1 { .. } else if x == 2 { .. } has a case for each number that matters"
 # The cures where the number of one of these is wanted.
 NUMBERED = {"table": "table ROUTES = 0, and let x = lookup ROUTES ipv4.dst", "pool": "pool CLONES = 1, and clone c from CLONES"}
+# What others call the packet as a whole.
+FOREIGN = ("meta", "metadata", "standard_metadata", "packet", "pkt", "skb", "ctx")
 # What is no number, and the cures where one is wanted.
 NO_NUMBERS = {
     "a set": "x in {}", "a packet": "send {} to ..", "a def": "{}(..) is a statement", "a table": "let x = lookup {} ..", "a pool": "clone c from {}",
@@ -49,12 +51,16 @@ NO_NUMBERS = {
 }  # fmt: skip
 # The cures for signs where a statement is wanted.
 NO_STATEMENTS = {
+    "not": "a condition is no statement: if not udp { drop }",
     "}": "no block is open here: a { is missing before, or this } is one too many", "{": "a block comes after a condition, `else` or a `def`",
     "(": 'no parentheses are after drop, send and count: drop "why"', ":": "a block is within braces: else { .. }",
     **dict.fromkeys(COMPARISONS, "a condition is no number: if c { x = 1 } else { x = 0 }"),
 }  # fmt: skip
-# The words that begin a declaration where a name or a text is after them; elsewhere they are names.
-WORDS = ("set", "def", "include", "table", "pool", "ring", "extend")
+# The words that begin a declaration where a name or a text is after them, each with one; elsewhere they are names.
+WORDS = {
+    "set": "set WEB = {80, 443}", "def": "def f() { .. }", "include": 'include "net.pkt"', "table": "table ROUTES = 0", "pool": "pool CLONES = 1",
+    "ring": "ring SLOW = 0", "extend": WANTED["after"],
+}  # fmt: skip
 
 
 class Item(NamedTuple):
@@ -180,7 +186,7 @@ def constant_of(node: Node, cure: str = "") -> int:
 
 
 class Parser(Lexer):
-    """Reads a text. `names` has the meaning of each name, `unknown` the names that are not numbers. The names of a `def` have a `suffix` where it
+    """Reads a text. `unknown` has the names that are not numbers. The names of a `def` have a `suffix` where it
     is used, `active` are those that are being used."""
 
     def __init__(self, text: str, headers: Headers, folder: File | None = None) -> None:
@@ -190,7 +196,6 @@ class Parser(Lexer):
         self.numbered: dict[str, tuple[str, int]] = {}
         self.functions: dict[str, Function] = {}
         self.suffix, self.inlined, self.active = "", 0, list[str]()
-        self.names: dict[str, str] = {**dict.fromkeys(headers, "a header"), PORT: "a variable"}
         self.constants: dict[str, Number | Wide] = {}
         self.unknown: list[Place] = []
         self.depth = self.statements = self.operators = 0
@@ -218,8 +223,8 @@ class Parser(Lexer):
             return number
         is_known = what not in ("table", "pool", "ring") or self.kind != "name" or self.place().word in {*self.names, *RESERVED}
         require(is_known, self.place(), f"there is no {what} {self.place().word}", f"{what} {self.place().word} = 0, before it, names one")
-        cure = "leave the = out" if self.sees("=") else "write its number, as 0 for the first one; the pipeline file says what is in it"
-        is_number = self.kind != "string" and not self.sees("=", "{")
+        cure = f"leave the {self.place().word} out" if self.sees("=", ":") else "write its number, as 0 for the first one; the pipeline file says what is in it"
+        is_number = self.kind != "string" and not self.sees("=", ":", "{")
         require(is_number, self.place(), f"the {what} is wanted here, and this is {self.place().word!r}", cure)
         at, value, limit = self.place(), constant_of(self.number(), NUMBERED.get(what, "")), limit or LIMITS[what]
         require(least <= value <= limit, at, f"the {what} is from {least} to {limit:,}, and this is {value:,}")
@@ -393,6 +398,7 @@ class Parser(Lexer):
         is_number = self.names.get(at.word) not in NO_NUMBERS
         require(is_number, at, f"{at.word} is {self.names.get(at.word)}, and no number", NO_NUMBERS.get(self.names.get(at.word, ""), "").format(at.word))
         cure = CURES.get(at.word) or f"a number or a condition is missing before `{at.word}`"
+        cure = "need c else drop" if at.word in ("drop", "send") and self.words[self.next - 1][1].word in ("and", "or") else cure
         require(at.word not in RESERVED - {PORT}, at, f"a number or a condition is wanted here, and this is {at.word!r}", cure)
         if self.names.get(at.word) != "a variable":
             self.unknown.append(at)
@@ -400,11 +406,13 @@ class Parser(Lexer):
 
     def cure_of_header(self, word: str) -> str:
         """The cure for a name before a point that is no header."""
+        if self.names.get(word) == "a table":
+            return LOOKUP.replace("ROUTES", word)
         if self.names.get(word) == "a packet":
             return f"fields are those of the packet of the program; truncate {word} 64, send {word} to 1 and free {word} are statements"
         if self.place(2).word in self.headers:
             return f"write {self.place(2).word} without {word}."
-        return "port is where the packet came from, and length how many bytes it has" if word in ("meta", "packet", "pkt", "skb") else self.known_headers(word)
+        return "port is where the packet came from, and length how many bytes it has" if word in FOREIGN else self.known_headers(word)
 
     def ipv6(self) -> Wide:
         """An IPv6 address."""
@@ -449,6 +457,13 @@ class Parser(Lexer):
         for at in self.unknown:
             fields = [(header, name) for header, it in self.headers.items() for name in (*it.fields, *it.wide)]
             cure = f"the `else` part has no {at.word}, and ends the program" if at.word == self.looked_up else number_meant(at.word, fields, numbers)
+            _, (_, left), _, (_, right), _ = self.around(at)
+            if cure.startswith("let ") and right.word == "(":
+                cure = f"def {at.word}(a) {{ .. }}, before it, makes {at.word}(1) a statement; nothing that is called gives a number"
+            elif cure.startswith("let ") and right.word == ":":
+                cure = CURES[":"]
+            elif cure.startswith("let ") and left.word in ("send", "to"):
+                cure = f"port {at.word} = 0, before it, names a port; {cure}"
             if self.active and cure.startswith("let "):
                 cure = f"a `def` sees no variables from outside: a parameter may have it; {cure}"
             raise SourceError(at, f"{at.word} is no variable here", cure)
@@ -461,7 +476,7 @@ class Parser(Lexer):
         """A packet that exists."""
         is_freed = self.words[self.next - 1][1].word == "free"
         at = self.name("a packet", cure="drop, which drops all packets" if is_freed else "the name is that of a packet that clone or new made")
-        cure = f"`clone {at.word} from 0` or `new {at.word} from 0` makes one, to the end of its block"
+        cure = ALONE if self.sees("{") else f"`clone {at.word} from 0` or `new {at.word} from 0` makes one, to the end of its block"
         require(self.names.get(at.word) == "a packet", at, f"there is no packet {at.word} here", cure)
         return at.word + self.suffix
 
@@ -608,6 +623,8 @@ class Parser(Lexer):
         name = at_name.word + self.suffix
         self.take("=", "a field is assigned without let: ipv4.ttl = 64" if self.sees(".") else f"let {at_name.word} = 0")
         if self.may("lookup"):
+            is_call = self.sees("(") and self.place(2).word == ","
+            require(not is_call, self.place(), "the table is wanted here, and this is '('", LOOKUP)
             self.looked_up, outside = name, self.looked_up
             found = Lookup(at, name, *self.slots("table number fallback"))
             self.looked_up = outside
@@ -627,7 +644,7 @@ class Parser(Lexer):
         self.take("{", f"the fields are within braces: push {header.word} {{ {next(iter(self.headers[header.word].fields))} = 1 }}")
         while not self.may("}"):
             at, name = self.place(), self.field_name(header.word)
-            require(name not in values, at, f"{name} is given twice")
+            require(name not in values, at, f"{name} is given twice", "one of them is enough")
             self.take("=")
             if name in self.headers[header.word].wide:
                 value = as_wide(self.operation(NUMBERS))
@@ -658,7 +675,8 @@ class Parser(Lexer):
         near = meant(first.word, [*STATEMENTS, *DECLARATIONS, *self.functions, *self.names, "mend", "count"], 2)
         other = f"statements begin with {', '.join(STATEMENTS)}, mend, or are assignments"
         by_sign = {":": f"write {first.word} = ..", "(": f"def {first.word}() {{ .. }}, before it, gives a block this name"}
-        return cure_of(first.word, RESERVED) or f"{f'did you mean {near}? ' if near else ''}{by_sign.get(self.place().word, other)}"
+        declared = f"as in {WORDS[first.word]}" if first.word in WORDS else ""
+        return cure_of(first.word, RESERVED) or declared or f"{f'did you mean {near}? ' if near else ''}{by_sign.get(self.place().word, other)}"
 
     def cure_of_target(self, first: Place, target: Node) -> str:
         """The cure for what was taken and cannot be assigned to."""
@@ -687,7 +705,7 @@ class Parser(Lexer):
             cure = "mend ipv4.ttl = 64" if mends else self.cure_of_target(first, target)
             raise SourceError(first, "`mend` assigns to a field" if mends else f"{first.word} cannot be assigned to", cure)
         sign = self.place()
-        cure = f"{f'{target.header}.{target.name}' if isinstance(target, Field) else first.word} = 1"
+        cure = f"{'mend ' if mends else ''}{f'{target.header}.{target.name}' if isinstance(target, Field) else first.word} = 1"
         cure = CURES[sign.word] if sign.word in ("+", "-", "set") else cure
         require(sign.word in ASSIGNMENTS, sign, f"an assignment is wanted here, and this is {sign.word!r}", cure)
         self.take()
@@ -727,7 +745,7 @@ class Parser(Lexer):
         """A name for a number of a table, a pool or a ring."""
         at = self.name(f"a {what}")
         self.declare(at, at.word, f"a {what}")
-        self.take("=", f"{what} {at.word} = 0")
+        self.take("=", f"{what} {at.word} = 0" + (f"; {ALONE}" if self.kind == "name" or self.sees("{") else ""))
         self.numbered[at.word] = what, self.limited(what)
 
     def declare_table(self, _: Program) -> None:
@@ -760,7 +778,7 @@ class Parser(Lexer):
         self.declare(at, at.word, "a def")
         self.take("(")
         while not self.may(")"):
-            name = self.name("a parameter", cure=f"def {at.word}(a, b) {{ .. }} has two")
+            name = self.name("a parameter", cure="take another name" if self.place().word in RESERVED else f"def {at.word}(a, b) {{ .. }} has two")
             is_new = name.word not in self.names and name.word not in parameters
             require(is_new, name, f"{name.word} is {self.names.get(name.word, 'a parameter')} already", "take another name")
             parameters.append(name.word)
@@ -796,7 +814,8 @@ class Parser(Lexer):
         other = self.header_name()
         is_free = at.word not in self.headers[other.word].before and self.headers[at.word].follows
         require(is_free, other, f"{at.word} cannot follow {other.word}, which it comes before", "declare a header with another name for the inner one")
-        require(other.word not in self.headers[at.word].follows, other, f"{at.word} follows {other.word} already")
+        require(other.word not in self.headers[at.word].follows, other, f"{at.word} follows {other.word} already",
+                f"a header of your own may follow {other.word} too, with another name")
         self.take("if")
         condition = self.condition()
         self.unknown = []
@@ -806,7 +825,8 @@ class Parser(Lexer):
     def declare_const(self, _: Program) -> None:
         at = self.name("a constant")
         self.declare(at, at.word, "a constant")
-        self.take("=", f"const {at.word} = 1")
+        is_typed = self.sees("<") or self.kind == "name"
+        self.take("=", f"a constant has no type: const {self.place().word if self.kind == 'name' else 'A'} = 1" if is_typed else f"const {at.word} = 1")
         require(not self.sees("{"), self.place(), "a number is wanted here, and this is '{'", f"set {at.word} = {{1, 2}} names a list")
         value = self.operation(NUMBERS)
         if not isinstance(value, Wide) or not isinstance(value.high, Number):
@@ -816,6 +836,7 @@ class Parser(Lexer):
         self.constants[at.word] = value  # type: ignore[assignment]
 
     def declare_otherwise(self, program: Program) -> None:
+        require(not self.sees("{", ":"), self.place(), f"after `otherwise` is a statement, and this is {self.place().word!r}", "otherwise drop")
         at, (it, *_) = self.place(), self.statement()
         is_sent = isinstance(it, Send) and it.packet == THIS and it.fallback is None and (isinstance(it.port, (int, Number)) or it.port == Name(at, PORT))
         require(is_sent or isinstance(it, Drop), at, "after `otherwise` is `drop`, `send port`, `send` with a constant, or `queue`, and no `else`")
@@ -903,7 +924,9 @@ class Parser(Lexer):
         self.take("in")
         low = self.constant()
         self.take("..")
-        high = self.limited("last value", low, min(low + 255, (1 << header.bits) - 1))
+        at, high, most = self.place(), self.constant(), min(low + 255, (1 << header.bits) - 1)
+        cure = "a range has at most 256 values: a second header has the others" if high > most else "the smaller one comes first"
+        require(low <= high <= most, at, f"the last value is from {low:,} to {most:,}, and this is {high:,}", cure)
         for it in parts(formula):
             is_own = not isinstance(it, Field) and (not isinstance(it, Name) or it.name == variable)
             require(is_own, it.at, "a length is calculated from its own variable and constants")

@@ -201,7 +201,7 @@ def enter_round(way: Way, needs: Needs) -> None:
 
 def weaken(way: Way, it: While) -> None:
     """Forgets the facts that a round may change."""
-    require(not has(it.body, Chain), way.at, "`chain` cannot be in a loop: a packet has at most 64 segments")
+    require(not has(it.body, Chain), way.at, "`chain` cannot be in a loop: a packet has at most 64 segments", "chain before the loop or after it")
     if has(it.body, Push, Pop, Cut, Truncate):
         for p in way.packets:
             way.know(p, first=0, headroom=0)
