@@ -651,6 +651,22 @@ class Programs(unittest.TestCase):
         no_sum = next(k for k in range(65536) if udp(k, 53)[40:42] == b"\xff\xff")
         self.assertEqual(sent("mend udp.sport = %d\nsend port" % no_sum, udp(5, 53))[0], [udp(no_sum, 53)])
 
+    def test_bits_are_taken_out_by_a_constant_that_is_wider_than_the_field(self) -> None:
+        self.assertEqual(sent("const SYN = 2\ntcp.flags &= ~SYN\nsend port", tcp(0x12, 80))[0], [tcp(0x10, 80)])
+        here, there = (eth(ipv4(1, bytes(8))[:6] + it + ipv4(1, bytes(8))[8:]) for it in (b"\x40\5", b"\0\5"))
+        self.assertEqual(sent("ipv4.flags &= ~2\nsend port", here)[0], [there])
+        self.assertEqual(sent("vlan.vid &= 0xff00\nsend port", tagged(here, 0xe123))[0], [tagged(here, 0xe100)])
+
+    def test_a_sum_that_is_added_holds_no_part_of_it(self) -> None:
+        names, frame = "abcde", udp(5, 53)
+        head = "".join(f"let {it} = eth.type + {k}\n" for k, it in enumerate(names))
+        for sign in "+-^|&":
+            inside = "+" if sign == "-" else sign
+            source = f"{head}let s = 0\ns {sign}= (a & 1) {inside} (b & 3) {inside} (c & 15)\neth.src = s\neth.dst = a + b + c + d + e\nsend port"
+            value = {"+": 0 + 1 + 2, "-": -(0 + 1 + 2), "^": 0 ^ 1 ^ 2, "|": 0 | 1 | 2, "&": 0}[sign] & (1 << 48) - 1
+            wanted = (5 * 0x800 + 10).to_bytes(6, "big") + value.to_bytes(6, "big") + frame[12:]
+            self.assertEqual(sent(source, frame)[0], [wanted], sign)
+
     def test_mend_of_64_bits(self) -> None:
         head = struct.pack(">IHBB", 0x60000000, 8, 17, 64)
         ends = [bytes.fromhex("20010db8000000000000000000000001"), bytes.fromhex("20010db8000000010000000000000002")]

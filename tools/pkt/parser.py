@@ -170,6 +170,13 @@ def combined(sign: str, left: Node, right: Node) -> Node:
     return Binary(left.at, sign, left, right)
 
 
+def added(sign: str, left: Node, right: Node) -> Node:
+    """The operation of `left += right`. Each part of a sum on the right is taken in turn, so that none has to be held: x + (a + b) is x + a + b."""
+    if isinstance(right, Binary) and sign in "+-&|^" and right.sign == ("+" if sign == "-" else sign):
+        return combined(sign, added(sign, left, right.left), right.right)
+    return combined(sign, left, right)
+
+
 def substituted(formula: Node, value: Node) -> Node:
     """A formula with a value in place of its variable."""
     if isinstance(formula, Binary):
@@ -711,8 +718,9 @@ class Parser(Lexer):
         self.take()
         value = self.number()
         require(target != Name(at, PORT), at, "port is where the packet came from, and is not assigned to", "let x = port")
-        self.require_fits(target, value)
-        return (kind(at, target, value if sign.word == "=" else combined(sign.word[:-1], target, value)),)
+        if sign.word != "&=":
+            self.require_fits(target, value)
+        return (kind(at, target, value if sign.word == "=" else added(sign.word[:-1], target, value)),)
 
     def program(self) -> Program:
         """The whole text."""
