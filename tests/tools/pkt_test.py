@@ -232,7 +232,7 @@ class Errors(unittest.TestCase):
             "need ipv6.src == ::1.2.3.256": "x.pkt:1:18: ::1.2.3.256 is no IPv6 address",
             "send 3": "help: ports 4",
             "ports 2\nsend 64": "help: the ports are 0 to 1",
-            "clone c from 1\nsend c": "x.pkt:2:6: c is a packet, and no number\n    send c\n         ^\n  help: send c to ..",
+            "clone c from 1\nsend c": "x.pkt:2:6: c is a packet, and no number\n    send c\n         ^\n  help: send c to 1, or queue c to 0",
             "need ipv4.ttl in 9..2": "x.pkt:1:18: no number is from 9 to 2\n",
             "need ipv4.ttl == 300": "x.pkt:1:18: ipv4.ttl has 8 bits, and is at most 255: this is 300",
             "ipv4.ttl = 300": "help: 44 are its lowest 8 bits",
@@ -306,6 +306,24 @@ class Slips(unittest.TestCase):
          "header vx { flags:32 word:32 } after udp if udp.dport == 4789\nmend vx.word = 5 << 8\nsend port"),
         ("while vlan { new h from 0 chain h before this pop vlan }\nsend port", "1:1", "chain before the loop",
          "while vlan { pop vlan }\nnew h from 0 chain h before this\nsend port"),
+        ("queue this 0", "1:7", "queue this to 0", "queue this to 0"),
+        ("clone c from 1\nqueue c 0\nsend port", "2:7", "queue c to 0", "clone c from 1\nqueue c to 0\nsend port"),
+        ("ipv4.sum = auto\nsend port", "1:12", "auto is the checksum of a pushed header", "ipv4.sum = 0\nsend port"),
+        ("vlan.pop()\nsend port", "1:6", "pop vlan", "pop vlan\nsend port"),
+        ("decap vlan\nsend port", "1:1", "pop vlan takes a header out", "pop vlan\nsend port"),
+        ("count dns += 1\nsend port", "1:11", "count web counts by 1", "count dns\nsend port"),
+        ("let u8 x = 5\nsend port", "1:8", "a variable has no type: let x = 0", "let x = 5\nsend port"),
+        ("drop unless tcp", "1:6", "if not c { .. }", "if not tcp { drop }"),
+        ("if ipv4.ttl =< 5 { drop }\nsend port", "1:13", "or <= and >=", "if ipv4.ttl <= 5 { drop }\nsend port"),
+        ("def f(a b) { vlan.vid = a vlan.pcp = b }\nf(5, 1)\nsend port", "1:9", "a comma is between two of them",
+         "def f(a, b) { vlan.vid = a vlan.pcp = b }\nf(5, 1)\nsend port"),
+        ("def f(a, b) { vlan.vid = a vlan.pcp = b }\nf(5 1)\nsend port", "2:5", "a comma is between two of them",
+         "def f(a, b) { vlan.vid = a vlan.pcp = b }\nf(5, 1)\nsend port"),
+        ("def f(a) { vlan.vid = a }\nf(5,)\nsend port", "2:5: one more is wanted here", "leave the comma before it out",
+         "def f(a) { vlan.vid = a }\nf(5)\nsend port"),
+        ("push vlan { vid = auto }\nsend port", "1:6: vlan.vid is no 16-bit word", "vid = 0", "push vlan { vid = 0 }\nsend port"),
+        ("header h { a:8 = auto b:8 }\nsend port", "1:8: a is `auto`, and no 16-bit word", "a checksum has 16 bits",
+         "header h { a:16 = auto b:8 }\nsend port"),
         ("let x = (ipv4.ttl + 1\nsend port", "2:1", "the ( in line 1, column 9 is open", "let x = (ipv4.ttl + 1)\nsend port"),
         ("let my-port = 80\nsend port", "1:7: '=' is wanted here", "no dash: my_port", "let my_port = 80\nsend port"),
         ("header my-tag { a:8 }\nsend port", "1:10", "no dash: my_tag", "header my_tag { a:8 }\nsend port"),
@@ -666,6 +684,33 @@ class Programs(unittest.TestCase):
             value = {"+": 0 + 1 + 2, "-": -(0 + 1 + 2), "^": 0 ^ 1 ^ 2, "|": 0 | 1 | 2, "&": 0}[sign] & (1 << 48) - 1
             wanted = (5 * 0x800 + 10).to_bytes(6, "big") + value.to_bytes(6, "big") + frame[12:]
             self.assertEqual(sent(source, frame)[0], [wanted], sign)
+
+    def test_constants_switch_off_what_is_behind_and_and_or(self) -> None:
+        web, mail = tcp(2, 80), tcp(2, 25)
+        for first in ("if ON and tcp.dport == 80 { drop }", "if tcp.dport == 80 and ON { drop }", "if tcp { if ipv4 and (ON or not OFF) and tcp.dport == 80 { drop } }",
+                      "if MODE == 1 and tcp.dport == 80 { drop } else if MODE == 2 and tcp.dport == 25 { drop }", "while ON and vlan { pop vlan }"):
+            for on in (0, 1):
+                source = f"const ON = {on}\nconst OFF = {1 - on}\nconst MODE = {1 if on else 3}\n{first}\nsend port"
+                self.assertEqual(sent(source.replace("not OFF", "0 == OFF"), web, mail)[0], [mail] if on and "80" in first else [web, mail], source)
+        for source in ("if tcp { if udp and ipv4 { drop } }\nsend port", "const ON = 1\nneed tcp\nif ON and udp { drop }\nsend port"):
+            with self.assertRaisesRegex(SourceError, "control never comes here"):
+                compile_text(source)
+
+    def test_a_sum_is_folded_in_its_register(self) -> None:
+        rng, frame = random.Random(9), eth(bytes(8) + bytes(range(8)), 0x88B5)
+        held = "".join(f"let {it} = mine.{it}\n" for it in "abcdef")
+        fields = "header mine { value:64 a:8 b:8 c:8 d:8 e:8 f:8 } after eth if eth.type == 0x88b5\n"
+        source = fields + held + "let s = mine.value\ns = (s & 0xffff) + (s >> 16)\nmine.value = s\neth.dst = a + b + c + d + e + f\nsend 0"
+        for value in (0, 0xFFFF, 0x1FFFF, *(rng.getrandbits(64) for _ in range(4))):
+            wanted = (15).to_bytes(6, "big") + frame[6:14] + ((value & 0xFFFF) + (value >> 16)).to_bytes(8, "big") + frame[22:]
+            self.assertEqual(sent(source, frame[:14] + value.to_bytes(8, "big") + frame[22:])[0], [wanted])
+        steps = {"(s & 0xffff) + (s >> 16)": lambda s: (s & 0xFFFF) + (s >> 16), "s + s": lambda s: s + s, "(s >> 3) - s": lambda s: (s >> 3) - s,
+                 "(s << 1 ^ s) + 5": lambda s: (s << 1 ^ s) + 5, "s + (s >> 1) + (s >> 2)": lambda s: s + (s >> 1) + (s >> 2),
+                 "(s + (s << 2)) ^ 7": lambda s: s + (s << 2) ^ 7, "s * 5 - s": lambda s: s * 4, "(s ^ 1) + (s ^ 2) * 3": lambda s: (s ^ 1) + (s ^ 2) * 3}
+        for text, step in steps.items():
+            value = rng.getrandbits(62)
+            given, wanted = (frame[:14] + (it % 2**64).to_bytes(8, "big") + frame[22:] for it in (value, step(value)))
+            self.assertEqual(sent(f"{fields}let s = mine.value\ns = {text}\nmine.value = s\nsend 0", given)[0], [wanted], text)
 
     def test_mend_of_64_bits(self) -> None:
         head = struct.pack(">IHBB", 0x60000000, 8, 17, 64)
@@ -1162,6 +1207,9 @@ extend ipv4 after pppoe if pppoe.proto == 0x21
                 ("\nconst A = B", 'include "a.pkt"', "a.pkt:2:11: a constant is wanted here"),
                 ("", 'include "b.pkt"', "x.pkt:1:9: " + str(folder / "b.pkt") + " cannot be read: No such file or directory"),
                 ("def f() {\n  mend eth.src = 5\n}", 'include "a.pkt"\nf()', "a.pkt:2:3: no checksum covers eth.src\n      mend eth.src = 5"),
+                ("\ndef f() {\n  drop", 'include "a.pkt"\nf()', "a.pkt:2:9: the block of f has no end\n    def f() {"),
+                ("def f() {\n  clone c from 1\n  eth.type = 5\n}", 'include "a.pkt"\nf()\nsend port', f"c ({folder / 'a.pkt'}:2) shares them"),
+                ("\nconst A = (5", 'include "a.pkt"\nsend A', f"the ( in {folder / 'a.pkt'}:2, column 11 is open"),
             ):
                 (folder / "a.pkt").write_text(file)
                 with self.assertRaises(SourceError) as caught:
@@ -1237,6 +1285,9 @@ class Command(unittest.TestCase):
             run = subprocess.run([str(TOP / "dpv"), "build", str(path)], capture_output=True, text=True)
             self.assertEqual((run.returncode, run.stdout), (1, ""))
             self.assertIn("drop.pkt:1:1: no statement begins with 'dropp'", run.stderr)
+            path.write_bytes(b"drop\n# caf\xe9\n")
+            run = subprocess.run([str(TOP / "dpv"), "build", str(path)], capture_output=True, text=True)
+            self.assertEqual((run.returncode, run.stderr), (1, f"{path}:2: this line is no UTF-8 text\n  help: save the file as UTF-8\n"))
             run = subprocess.run([str(TOP / "dpv"), "build", name + "/none.pkt"], capture_output=True, text=True)
             self.assertEqual(run.returncode, 1)
             path.write_text("drop\n")

@@ -27,8 +27,11 @@ def main() -> int:
     try:
         source = path.read_text(encoding="utf-8")
         text, note = compiled(source, path.name, path.parent)
-    except (OSError, UnicodeDecodeError) as error:
-        print(f"{path}: {error.strerror if isinstance(error, OSError) else 'it is no UTF-8 text'}", file=sys.stderr)
+    except UnicodeDecodeError as error:
+        row = error.object.count(b"\n", 0, error.start) + 1
+        print(f"{path}:{row}: this line is no UTF-8 text\n  help: save the file as UTF-8", file=sys.stderr)
+    except OSError as error:
+        print(f"{path}: {error.strerror}", file=sys.stderr)
     except SourceError as error:
         print(error_text(error, str(path), source), file=sys.stderr)
     else:

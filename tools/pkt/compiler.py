@@ -70,7 +70,7 @@ def compiled(source: str, name: str = "a text", folder: pathlib.Path | None = No
 def note_of(lines: Counter[int], rows: list[Row]) -> str:
     """The note on lines that no packet reaches, each with the number of its instructions."""
     shown = [rows[line] for line in sorted(lines) if line]
-    places = [f"{row.path}:{row.number}" if row.path else f"line {row.number}" for row in shown]
+    places = [row.place for row in shown]
     count = sum(lines[line] for line in lines if line)
     said = f"{', '.join(places[:-1])} and {places[-1]}" if len(places) > 1 else "".join(places)
     return f"no packet reaches {said}: {count} instruction{'s are' if count > 1 else ' is'} left out" if places else ""

@@ -10,7 +10,7 @@ LOOKUP, ALONE = "let x = lookup ROUTES ipv4.dst", "statements stand alone, with 
 FIELD = "a field has its bits after a colon, as in a:8, and blanks before the next one"
 # The cures for these words out of place.
 CURES = {
-    "=": "compare with ==",
+    "=": "compare with ==, or <= and >=",
     "/": "a prefix comes after `in`; there is no division, and >> n divides by 2^n; a comment begins with #",
     "!": "write `not`",
     ";": "no sign ends a statement or a field, and a comma is between two items",
@@ -35,12 +35,13 @@ CURES = {
     "the end of the text": "a block ends with }",
     "else": "an `else` comes after its statement: if, need, let with lookup, send, queue, clone or new",
     "lookup": "let x = lookup ..",
-    "not": "not x in {1, 2}, and if not udp { drop }",
+    "not": "not x in {1, 2}; if not udp { x = 1 }, as a condition is no number",
     "is": "compare with ==; if ipv4 { .. } asks whether there is the header",
     "to": "send c to 1; push eth { type = 5 } on h; x in 1..5",
     "clone": "clone c from 1", "new": "new h from 0",
     "set": "write x = 5",
-    "this": "send this to 1, or only send 1",
+    "this": "send this to 1, or only send 1; queue this to 0",
+    "auto": "auto is the checksum of a pushed header; mend updates one",
     "port": "ports 4 says how many ports there are, and port UP = 1 names one",
     "count": "count web, without quotes and parentheses",
 }  # fmt: skip
@@ -52,7 +53,10 @@ SLIPS = {
     "let x = .. makes a variable": "int uint u8 u16 u32 u64 uint8_t uint16_t uint32_t uint64_t var bool local bit unsigned signed long short char mut",
     "drop, or send port, ends the program": "return exit",
     "if x == 1 { .. } else if x == 2 { .. } has a case for each number": "switch case match",
-    "while c { .. } repeats statements": "for loop do",
+    "while c { .. } repeats statements": "for loop do repeat foreach until",
+    "pop vlan takes a header out, and push vlan { vid = 5 } puts one in": "remove delete insert strip decap encap",
+    "if not c { .. }": "unless",
+    "an assignment begins with a variable or a field, and count web counts by 1": "+= -= *= &= |= ^= <<= >>=",
     "the condition of `while` ends a loop": "break continue",
     "def f() { .. } gives a block a name, and f() is its statement": "function func fn action void",
     "const WEB = 80 names a number": "define static enum",
@@ -112,6 +116,7 @@ NUMBERS = {
     "ipproto_icmpv6": 58, "eth_p_ip": 0x0800, "eth_p_arp": 0x0806, "eth_p_ipv6": 0x86DD, "eth_p_8021q": 0x8100, "http": 80, "https": 443, "ssh": 22,
     "dns": 53, "ef": 46, **{f"cs{k}": 8 * k for k in range(8)}, **{f"af{k}{n}": 8 * k + 2 * n for k in range(1, 5) for n in range(1, 4)},
 }  # fmt: skip
+MOVED = ("push", "pop", "insert", "remove", "setvalid", "setinvalid", "add", "delete", "strip")
 LENGTHS, ORDERS = ("len", "size", "pkt_len", "frame_len", "packet_length"), ("htons", "ntohs", "htonl", "ntohl", "bpf_htons", "bpf_ntohs")
 ASKED, BEHIND = ("isvalid", "valid", "present", "exists"), ("options", "option", "opts", "payload", "data", "body", "rest")
 
@@ -142,6 +147,8 @@ def field_meant(header: str, word: str, fields: Iterable[str]) -> str:
         return f"if {header} {{ .. }}"
     if word.lower() in BITS.get(header, {}):
         return f"{header}.flags & {BITS[header][word.lower()]}"
+    if word.lower() in MOVED:
+        return f"push {header} {{ .. }} or pop {header}"
     if word.lower() in BEHIND:
         return f"header mine {{ a:8 }} after {header} if {header}.{next(iter(fields))} == 5, for what is behind it"
     if word.lower() == "port" and "sport" in fields:
@@ -159,6 +166,8 @@ def number_meant(word: str, fields: Sequence[tuple[str, str]], numbers: Iterable
         return f"a field is a number already: leave {word} out"
     if word.lower() in LENGTHS:
         return "length is how many bytes the packet has"
+    if word == "count":
+        return "count web is a statement, and gives no number"
     if word in ("range", "to"):
         return RANGE if word == "range" else "send 1, or send c to 1 for another packet"
     others = [f"{header}.{name}" for header, name in fields if name == word]

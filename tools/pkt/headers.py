@@ -37,6 +37,11 @@ class Span(NamedTuple):
         """The largest value."""
         return (1 << self.bits) - 1
 
+    @property
+    def is_word(self) -> bool:
+        """Whether they are one 16-bit word of a header, as a checksum is."""
+        return self.bits == 16 and self.bit % 16 == 0
+
     def moved(self, count: int) -> Span:
         """The same bits, `count` bytes further."""
         return self._replace(bit=self.bit + 8 * count)
@@ -158,10 +163,11 @@ def check(header: Header, headers: Headers) -> None:
             "the range after `in` begins with a greater number")
     automatic = [name for name, value in header.defaults.items() if value is None]
     require(len(automatic) < 2, at, f"{' and '.join(automatic)} are both `auto`, and each would count the other", "leave one of them out")
+    for name in automatic:
+        require(header.fields[name].is_word, at, f"{name} is `auto`, and no 16-bit word of the header", "a checksum has 16 bits, and an even number of bytes before it")
     is_plain = header.sum not in automatic or not (header.payload or header.over)
     require(is_plain, at, f"{header.sum} covers more than the header, and `auto` is of the header alone", "leave `= auto` out")
-    is_word = not header.sum or header.fields[header.sum].bits == 16 and header.fields[header.sum].bit % 16 == 0
-    require(is_word, at, f"the checksum {header.sum} is one 16-bit word of the header", "it has 16 bits, and an even number of bytes before it")
+    require(not header.sum or header.fields[header.sum].is_word, at, f"the checksum {header.sum} is one 16-bit word of the header", "it has 16 bits, and an even number of bytes before it")
     if header.next:
         check_tag(header, header.fields[header.next], headers)
 

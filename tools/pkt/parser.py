@@ -46,7 +46,7 @@ NUMBERED = {"table": "table ROUTES = 0, and let x = lookup ROUTES ipv4.dst", "po
 FOREIGN = ("meta", "metadata", "standard_metadata", "packet", "pkt", "skb", "ctx")
 # What is no number, and the cures where one is wanted.
 NO_NUMBERS = {
-    "a set": "x in {}", "a packet": "send {} to ..", "a def": "{}(..) is a statement", "a table": "let x = lookup {} ..", "a pool": "clone c from {}",
+    "a set": "x in {}", "a packet": "send {0} to 1, or queue {0} to 0", "a def": "{}(..) is a statement", "a table": "let x = lookup {} ..", "a pool": "clone c from {}",
     "a ring": "queue {}",
 }  # fmt: skip
 # The cures for signs where a statement is wanted.
@@ -385,7 +385,7 @@ class Parser(Lexer):
                 if self.take().word == "~":
                     return combined("^", self.operand(), Number(at, BIGGEST))
                 node = self.operation()
-                self.take(")", "" if self.sees(",") else f"the ( in line {at.line}, column {at.column} is open")
+                self.take(")", "" if self.sees(",") else f"the ( in {self.rows[at.line].place}, column {at.column} is open")
                 return node
         if self.may("length"):
             return Length(at)
@@ -565,6 +565,12 @@ class Parser(Lexer):
             self.declare(at, it.name.split(PRIME)[0], "a variable" if isinstance(it, (Let, Lookup)) else "a packet")
         return all_of
 
+    def comma_before(self, end: str) -> None:
+        """The comma between two items of a list, or the end of it, which is not taken."""
+        if not self.sees(end):
+            self.take(",", f"a comma is between two of them, and {end} after the last one")
+            require(not self.sees(end), self.place(), f"one more is wanted here, and this is {end!r}", "leave the comma before it out")
+
     def call(self, at: Place) -> Inline:
         """The statements of a `def`, with numbers for its parameters: constants, and variables of their own for all others."""
         name, values = self.take().word, list[Node]()
@@ -572,7 +578,7 @@ class Parser(Lexer):
         self.take("(")
         while not self.may(")"):
             values.append(self.operation(NUMBERS))
-            self.may(",")
+            self.comma_before(")")
         self.refuse_unknown()
         wanted = ", ".join(function.parameters)
         require(len(values) == len(function.parameters), at, f"{name}({wanted}) has {len(function.parameters)} numbers, and here are {len(values)}",
@@ -628,7 +634,8 @@ class Parser(Lexer):
         """A variable, for a number or what a table has."""
         at_name = self.name("a variable")
         name = at_name.word + self.suffix
-        self.take("=", "a field is assigned without let: ipv4.ttl = 64" if self.sees(".") else f"let {at_name.word} = 0")
+        typed = f"a variable has no type: let {self.place().word} = 0" if self.kind == "name" and self.place().line == at.line else f"let {at_name.word} = 0"
+        self.take("=", "a field is assigned without let: ipv4.ttl = 64" if self.sees(".") else typed)
         if self.may("lookup"):
             is_call = self.sees("(") and self.place(2).word == ","
             require(not is_call, self.place(), "the table is wanted here, and this is '('", LOOKUP)
@@ -670,6 +677,8 @@ class Parser(Lexer):
             require(name in values, at, f"{at.word}.{name} is not named, and would be 0", f"name it with its number, as in {name} = 100")
         automatic = [name for name, value in (header.defaults | values).items() if value is None]
         require(len(automatic) < 2, at, f"{' and '.join(automatic)} are both `auto`, and each would count the other", "give one of them a value")
+        for name in automatic:
+            require(header.fields[name].is_word, at, f"{at.word}.{name} is no 16-bit word of the header, and `auto` is a checksum", f"{name} = 0, or another number")
         is_plain = header.sum not in automatic or not (header.payload or header.over)
         cure = f"{header.sum} = 0 where that means that there is none" if header.optional else "push the header, and assign the checksum"
         require(is_plain, at, f"{at.word}.{header.sum} covers more than the header, and `auto` is of the header alone", cure)
@@ -677,7 +686,7 @@ class Parser(Lexer):
     def cure_of_statement(self, first: Place) -> str:
         """The cure for a name that was taken and begins no statement."""
         before = self.words[self.next - 2][1]
-        if before.word == "drop" and before.line == first.line:
+        if before.word == "drop" and before.line == first.line and first.word not in CURES:
             return 'a reason is within double quotes: drop "why"'
         near = meant(first.word, [*STATEMENTS, *DECLARATIONS, *self.functions, *self.names, "mend", "count"], 2)
         other = f"statements begin with {', '.join(STATEMENTS)}, mend, or are assignments"
@@ -790,12 +799,11 @@ class Parser(Lexer):
             is_new = name.word not in self.names and name.word not in parameters
             require(is_new, name, f"{name.word} is {self.names.get(name.word, 'a parameter')} already", "take another name")
             parameters.append(name.word)
-            self.may(",")
+            self.comma_before(")")
         self.functions[at.word] = Function(tuple(parameters), self.next)
-        self.take("{")
-        depth = 1
+        begin, depth = self.take("{"), 1
         while depth:
-            require(self.kind != "end", self.place(), f"the block of {at.word} has no end", "a block ends with }")
+            require(self.kind != "end", begin, f"the block of {at.word} has no end", "a block ends with }")
             depth += self.sees("{") - self.sees("}")
             self.take()
 

@@ -155,7 +155,7 @@ def load_pieces(way: Way, span: Span, value: Value) -> None:
 def may_write(way: Way, packet: int) -> None:
     """Refuses a write to shared bytes."""
     name, line = way.sharer
-    who = f"{name} (line {line}) shares them" if name else "the ring hands it over shared"
+    who = f"{name} ({way.unit.program.rows[line].place}) shares them" if name else "the ring hands it over shared"
     cure = "write before `clone`, or free the clone first" if name else "have the ring declare share = 2"
     is_alone = way.packets[packet].sharers <= {SOMEBODY_THE_REST}
     require(is_alone, way.at, f"the bytes of the packet cannot be written here: {who}", cure)
@@ -330,8 +330,11 @@ def assign(way: Way, target: Name, it: Node) -> None:
         chain.append(left)
         left = left.left
     # The innermost right side is computed before the register changes, so it may use the variable if the left side is the variable.
-    late = [part.right for part in (chain[:-1] if left == target else chain)]
-    if target in parts(tuple(late)) or left != target and target in parts(left):
+    late = chain[:-1] if left == target else chain
+    again = [part for part in late if target in parts(part.right)]
+    # So may one other right side, which is computed first, as in s = (s & 0xffff) + (s >> 16).
+    before = own(way, evaluate(way, again[0].right)) if left == target and len(again) == 1 else None
+    if again and before is None or left != target and target in parts(left):
         left, chain = it, []
     if isinstance(left, Field) and span_of(way, left) not in way.loaded:
         load(way, span_of(way, left), into=register.register)
@@ -340,4 +343,8 @@ def assign(way: Way, target: Name, it: Node) -> None:
         copy_to(way, register, value)
         release(way, value)
     for part in reversed(chain):
-        operate(way, register, part.sign, part.right)
+        if before is not None and part is again[0]:
+            apply(way, register, part.sign, before)
+            release(way, before)
+        else:
+            operate(way, register, part.sign, part.right)

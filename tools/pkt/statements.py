@@ -1,6 +1,7 @@
 """Lowering of statements: assignments, branches, loops, and packets that are made or sent."""
 from __future__ import annotations
 
+import operator
 from collections import Counter
 from collections.abc import Callable
 from dataclasses import replace
@@ -12,12 +13,13 @@ from .parser import Program
 from .registers import Value
 from .state import NEAR, NOTHING, SOMEBODY, Far, Needs, Packet
 from .syntax import (
-    BIGGEST, PORT, THIS, Assign, Block, Chain, Clone, Count, Cut, Drop, Field, Found, Free, If, Inline, Length, Let, Lookup, Mend, Name, Need, New, Node,
-    NoRegister, Number, Pop, Push, Send, Truncate, While, has, parts, require,
+    BIGGEST, PORT, THIS, And, Assign, Block, Chain, Clone, Compare, Count, Cut, Drop, Field, Free, If, Inline, Let, Lookup, Mend, Name, Need, New, Node,
+    NoRegister, Not, Number, Or, Pop, Push, Send, Truncate, While, has, parts, require,
 )
 from .ways import Join, Unit, Way, paths
 
 MAX_PORT = 7
+SIGNS = {"==": operator.eq, "!=": operator.ne, "<": operator.lt, ">": operator.gt, "<=": operator.le, ">=": operator.ge}
 UNREACHED = "control never comes here: what was asked before decides it"
 
 
@@ -94,12 +96,12 @@ def body(text: Block | None, join: Join[Way], after: Join[Way]) -> None:
 
 
 def refuse_unreached(block: Block, reached: set[int]) -> None:
-    """Refuses statements that control never reaches, except in `else` parts and under conditions made of constants."""
+    """Refuses statements that control never reaches, except in `else` parts and under conditions that constants decide."""
     for number, it in enumerate(block):
         # The second half of an assignment to an IPv6 address stands at the place of the first.
         is_half = number > 0 and it.at == block[number - 1].at
         require(id(it) in reached or is_half, it.at, UNREACHED, "delete it, or ask another question before")
-        while isinstance(it, (If, While)) and has(it.condition, Name, Field, Found, Length):
+        while isinstance(it, (If, While)) and decided(it.condition) is None:
             refuse_unreached(it.body, reached)
             rest = it.fallback if isinstance(it, If) else ()
             if len(rest) != 1 or not isinstance(rest[0], If):
@@ -107,6 +109,24 @@ def refuse_unreached(block: Block, reached: set[int]) -> None:
                 break
             it = rest[0]
             require(id(it) in reached, it.at, UNREACHED, "delete it, or ask another question before")
+
+
+def decided(it: Node) -> bool | None:
+    """What the constants of a condition make of it, or nothing."""
+    if isinstance(it, Compare) and isinstance(it.left, Number) and isinstance(it.right, Number):
+        return SIGNS[it.sign](it.left.value, it.right.value)
+    if isinstance(it, Not):
+        inner = decided(it.condition)
+        return None if inner is None else not inner
+    if not isinstance(it, (And, Or)):
+        return None
+    kind, sides = type(it), list[bool | None]()
+    while isinstance(it, kind):
+        sides.append(decided(it.right))
+        it = it.left
+    sides.append(decided(it))
+    deciding = kind is Or
+    return deciding if deciding in sides else None if None in sides else not deciding
 
 
 def statement(way: Way, it: Node, after: Join[Way]) -> None:

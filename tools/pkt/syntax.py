@@ -27,6 +27,11 @@ class Row(NamedTuple):
     number: int
     text: str
 
+    @property
+    def place(self) -> str:
+        """What a message calls it."""
+        return f"{self.path}:{self.number}" if self.path else f"line {self.number}"
+
 
 class SourceError(Exception):
     """An error of the source: its place, the fault, and a cure. `row` is its line where that is in another file."""
