@@ -322,7 +322,7 @@ class Slips(unittest.TestCase):
         ("def f(a) { vlan.vid = a }\nf(5,)\nsend port", "2:5: one more is wanted here", "leave the comma before it out",
          "def f(a) { vlan.vid = a }\nf(5)\nsend port"),
         ("push vlan { vid = auto }\nsend port", "1:6: vlan.vid is no 16-bit word", "vid = 0", "push vlan { vid = 0 }\nsend port"),
-        ("header h { a:8 = auto b:8 }\nsend port", "1:8: a is `auto`, and no 16-bit word", "a checksum has 16 bits",
+        ("header h { a:8 = auto b:8 }\nsend port", "1:8: a is `auto`, and no 16-bit word", "it has 16 bits",
          "header h { a:16 = auto b:8 }\nsend port"),
         ("let x = (ipv4.ttl + 1\nsend port", "2:1", "the ( in line 1, column 9 is open", "let x = (ipv4.ttl + 1)\nsend port"),
         ("let my-port = 80\nsend port", "1:7: '=' is wanted here", "no dash: my_port", "let my_port = 80\nsend port"),
@@ -687,7 +687,8 @@ class Programs(unittest.TestCase):
 
     def test_constants_switch_off_what_is_behind_and_and_or(self) -> None:
         web, mail = tcp(2, 80), tcp(2, 25)
-        for first in ("if ON and tcp.dport == 80 { drop }", "if tcp.dport == 80 and ON { drop }", "if tcp { if ipv4 and (ON or not OFF) and tcp.dport == 80 { drop } }",
+        for first in ("if ON and tcp.dport == 80 { drop }", "if tcp.dport == 80 and ON { drop }",
+                      "if tcp { if ipv4 and (ON or not OFF) and tcp.dport == 80 { drop } }",
                       "if MODE == 1 and tcp.dport == 80 { drop } else if MODE == 2 and tcp.dport == 25 { drop }", "while ON and vlan { pop vlan }"):
             for on in (0, 1):
                 source = f"const ON = {on}\nconst OFF = {1 - on}\nconst MODE = {1 if on else 3}\n{first}\nsend port"
@@ -1133,6 +1134,9 @@ class Reached(unittest.TestCase):
         source = "if ipv4.ttl < 5 {\n drop\n}\nlet a = ipv4.ttl\nif a < 5 {\n count low\n ipv4.tos = 1\n}\nsend port\n"
         self.assertEqual(compiled(source).note, "no packet reaches line 6 and line 7: 3 instructions are left out")
         self.assertEqual(compiled(source.replace("a < 5", "a < 6")).note, "")
+        way = "let way = ipv4.src & 3\nsend way"
+        self.assertEqual(compiled(way).note, "line 2 sends to port 0 alone, as no `ports 4` says that there are more")
+        self.assertEqual([compiled(it).note for it in (f"ports 4\n{way}", f"{way}\nports 1", "send port", "send 0")], [""] * 4)
         with tempfile.TemporaryDirectory() as folder:
             path = pathlib.Path(folder, "x.pkt")
             path.write_text(source)

@@ -9,7 +9,7 @@ from .parser import Parser, Program
 from .peephole import shorten
 from .reach import lines_unreached
 from .statements import compile_program
-from .syntax import Row, SourceError
+from .syntax import PORT, Name, Node, Number, Row, Send, SourceError, parts
 from .writer import printable, write
 
 PRELUDE = pathlib.Path(__file__).resolve().parent / "prelude.pkt"
@@ -60,11 +60,18 @@ def compiled(source: str, name: str = "a text", folder: pathlib.Path | None = No
     program = parse(source, folder)
     try:
         graph = compile_program(program)
-        note = note_of(lines_unreached(graph), program.rows) if has_note else ""
+        note = "; ".join(filter(None, (note_of(lines_unreached(graph), program.rows), note_of_ports(program)))) if has_note else ""
         shorten(graph, MAX_INSTRUCTIONS)
         return Compiled(f"# Built from {printable(name)} by `dpv build`; docs/users/pkt.md has its language.\n" + write(graph, program.rows), note)
     except SourceError as error:
         raise placed(error, program.rows) from None
+
+
+def note_of_ports(program: Program) -> str:
+    """The note on packets that are sent to a port by its number, where the text does not say how many ports there are."""
+    sends = [it for it in parts(program.statements) if isinstance(it, Send) and isinstance(it.port, Node) and not isinstance(it.port, Number)]
+    place = next((program.rows[it.at.line].place for it in sends if it.port != Name(it.at, PORT)), "")
+    return f"{place} sends to port 0 alone, as no `ports 4` says that there are more" if place and not program.has_ports else ""
 
 
 def note_of(lines: Counter[int], rows: list[Row]) -> str:

@@ -163,11 +163,12 @@ def check(header: Header, headers: Headers) -> None:
             "the range after `in` begins with a greater number")
     automatic = [name for name, value in header.defaults.items() if value is None]
     require(len(automatic) < 2, at, f"{' and '.join(automatic)} are both `auto`, and each would count the other", "leave one of them out")
+    cure = "it has 16 bits, and an even number of bytes before it"
     for name in automatic:
-        require(header.fields[name].is_word, at, f"{name} is `auto`, and no 16-bit word of the header", "a checksum has 16 bits, and an even number of bytes before it")
+        require(header.fields[name].is_word, at, f"{name} is `auto`, and no 16-bit word of the header", f"a checksum is one: {cure}")
     is_plain = header.sum not in automatic or not (header.payload or header.over)
     require(is_plain, at, f"{header.sum} covers more than the header, and `auto` is of the header alone", "leave `= auto` out")
-    require(not header.sum or header.fields[header.sum].is_word, at, f"the checksum {header.sum} is one 16-bit word of the header", "it has 16 bits, and an even number of bytes before it")
+    require(not header.sum or header.fields[header.sum].is_word, at, f"the checksum {header.sum} is one 16-bit word of the header", cure)
     if header.next:
         check_tag(header, header.fields[header.next], headers)
 

@@ -46,8 +46,8 @@ NUMBERED = {"table": "table ROUTES = 0, and let x = lookup ROUTES ipv4.dst", "po
 FOREIGN = ("meta", "metadata", "standard_metadata", "packet", "pkt", "skb", "ctx")
 # What is no number, and the cures where one is wanted.
 NO_NUMBERS = {
-    "a set": "x in {}", "a packet": "send {0} to 1, or queue {0} to 0", "a def": "{}(..) is a statement", "a table": "let x = lookup {} ..", "a pool": "clone c from {}",
-    "a ring": "queue {}",
+    "a set": "x in {}", "a packet": "send {0} to 1, or queue {0} to 0", "a def": "{}(..) is a statement", "a table": "let x = lookup {} ..",
+    "a pool": "clone c from {}", "a ring": "queue {}",
 }  # fmt: skip
 # The cures for signs where a statement is wanted.
 NO_STATEMENTS = {
@@ -85,6 +85,7 @@ class Program:
 
     headers: Headers
     ports: int = 1
+    has_ports: bool = False
     segments: int = 1
     otherwise: Node | None = None
     is_for_ring: bool = False
@@ -678,7 +679,8 @@ class Parser(Lexer):
         automatic = [name for name, value in (header.defaults | values).items() if value is None]
         require(len(automatic) < 2, at, f"{' and '.join(automatic)} are both `auto`, and each would count the other", "give one of them a value")
         for name in automatic:
-            require(header.fields[name].is_word, at, f"{at.word}.{name} is no 16-bit word of the header, and `auto` is a checksum", f"{name} = 0, or another number")
+            fault = f"{at.word}.{name} is no 16-bit word of the header, and `auto` is a checksum"
+            require(header.fields[name].is_word, at, fault, f"{name} = 0, or another number")
         is_plain = header.sum not in automatic or not (header.payload or header.over)
         cure = f"{header.sum} = 0 where that means that there is none" if header.optional else "push the header, and assign the checksum"
         require(is_plain, at, f"{at.word}.{header.sum} covers more than the header, and `auto` is of the header alone", cure)
@@ -753,7 +755,7 @@ class Parser(Lexer):
         return self.sees("const", "ports", "segments", "otherwise", "given", "header") or self.starts(*WORDS) or is_port
 
     def declare_ports(self, program: Program) -> None:
-        program.ports = self.limited("number of ports", 1)
+        program.ports, program.has_ports = self.limited("number of ports", 1), True
 
     def declare_segments(self, program: Program) -> None:
         program.segments = self.limited("number of segments", 1)

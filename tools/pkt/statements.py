@@ -13,7 +13,7 @@ from .parser import Program
 from .registers import Value
 from .state import NEAR, NOTHING, SOMEBODY, Far, Needs, Packet
 from .syntax import (
-    BIGGEST, PORT, THIS, And, Assign, Block, Chain, Clone, Compare, Count, Cut, Drop, Field, Free, If, Inline, Let, Lookup, Mend, Name, Need, New, Node,
+    BIGGEST, PORT, THIS, And, Assign, Block, Chain, Clone, Compare, Count, Cut, Drop, Free, If, Inline, Let, Lookup, Mend, Name, Need, New, Node,
     NoRegister, Not, Number, Or, Pop, Push, Send, Truncate, While, has, parts, require,
 )
 from .ways import Join, Unit, Way, paths
