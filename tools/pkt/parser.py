@@ -51,7 +51,8 @@ NO_NUMBERS = {
 }  # fmt: skip
 # The cures for signs where a statement is wanted.
 NO_STATEMENTS = {
-    "not": "a condition is no statement: if not udp { drop }",
+    "not": "a condition is no statement: if not udp { drop }", "and": "`and` is between conditions; a clone is sent to a second port",
+    "or": "`or` is between conditions; send 0 else { .. } says what happens otherwise",
     "}": "no block is open here: a { is missing before, or this } is one too many", "{": "a block comes after a condition, `else` or a `def`",
     "(": 'no parentheses are after drop, send and count: drop "why"', ":": "a block is within braces: else { .. }",
     **dict.fromkeys(COMPARISONS, "a condition is no number: if c { x = 1 } else { x = 0 }"),
@@ -406,7 +407,7 @@ class Parser(Lexer):
         is_number = self.names.get(at.word) not in NO_NUMBERS
         require(is_number, at, f"{at.word} is {self.names.get(at.word)}, and no number", NO_NUMBERS.get(self.names.get(at.word, ""), "").format(at.word))
         cure = CURES.get(at.word) or f"a number or a condition is missing before `{at.word}`"
-        cure = "need c else drop" if at.word in ("drop", "send") and self.words[self.next - 1][1].word in ("and", "or") else cure
+        cure = "need c else drop" if at.word in ("drop", "send", "else") and self.words[self.next - 1][1].word in ("and", "or") else cure
         require(at.word not in RESERVED - {PORT}, at, f"a number or a condition is wanted here, and this is {at.word!r}", cure)
         if self.names.get(at.word) != "a variable":
             self.unknown.append(at)
@@ -764,7 +765,7 @@ class Parser(Lexer):
         """A name for a number of a table, a pool or a ring."""
         at = self.name(f"a {what}")
         self.declare(at, at.word, f"a {what}")
-        self.take("=", f"{what} {at.word} = 0" + (f"; {ALONE}" if self.kind == "name" or self.sees("{") else ""))
+        self.take("=", f"{what} {at.word} = 0" + (f"; {ALONE}" if self.place().line == at.line and self.kind == "name" or self.sees("{") else ""))
         self.numbered[at.word] = what, self.limited(what)
 
     def declare_table(self, _: Program) -> None:
@@ -843,10 +844,11 @@ class Parser(Lexer):
     def declare_const(self, _: Program) -> None:
         at = self.name("a constant")
         self.declare(at, at.word, "a constant")
-        is_typed = self.sees("<") or self.kind == "name"
+        is_typed = self.sees("<") or self.kind == "name" and self.place().line == at.line
         self.take("=", f"a constant has no type: const {self.place().word if self.kind == 'name' else 'A'} = 1" if is_typed else f"const {at.word} = 1")
         require(not self.sees("{"), self.place(), "a number is wanted here, and this is '{'", f"set {at.word} = {{1, 2}} names a list")
         value = self.operation(NUMBERS)
+        require(not self.sees("/", ".."), self.place(), "a prefix or a range is no number", f"set {at.word} = {{10.0.0.0/8, 80..90}}, and x in {at.word}")
         if not isinstance(value, Wide) or not isinstance(value.high, Number):
             constant_of(as_number(value), f"let {at.word} = .. has a number that the packet gives")
         is_whole = not isinstance(value, Number) or not value.wraps
@@ -936,9 +938,13 @@ class Parser(Lexer):
     def clause_length(self, header: Header) -> None:
         header.formula = formula = self.number()
         self.take("for")
-        variable = self.name("a variable").word
+        named = self.name("a variable")
+        variable = named.word
         self.take(":")
         header.bits = self.limited("number of bits", 1, 16)
+        is_other = header.fields.get(variable, Span(0, header.bits)) != Span(0, header.bits)
+        fault = f"{variable} is here the first {header.bits} bits of {header.name}, which its field {variable} is not"
+        require(not is_other, named, fault, "take another name, as v:8: v & 15 are the last 4 of 8 bits")
         self.take("in")
         low = self.constant()
         self.take("..")
