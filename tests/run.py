@@ -81,6 +81,7 @@ STEPS = (
     Step("program", "tests/program/faults.py", "faults of the command line, files, pipelines and captures, each together with every fault that is tested later", ON_PROGRAM),
     Step("program", "tests/program/outputs.py", "that no run overwrites a file it should not: outputs that are another file of the run, and each cause for which a run ends before its first header", ON_PROGRAM),
     Step("program", "tests/program/pipes.py", "live runs in pipes, a record at a time; `-` for standard input and output, which keep what they had; captures that the command line gives, beside edited pipeline files; each wrong word, and which fault is first", ON_PROGRAM),
+    Step("program", "tests/program/launched.py", "`dpv filter` with programs of the language, which the launcher compiles: that no output is a file that the compiler reads, and that nothing is left of a run, also if a signal ends it", ON_PROGRAM),
     Step("program", "tests/program/mistakes.py", "60 one-letter mistakes in the examples: each message names the file and the line, and 50 of them the word", ON_PROGRAM),
     Step("program", "tests/program/messages.py", "the lines after a fault or a refused certificate, and those of `--progress`", ON_PROGRAM),
     Step("program", "tests/program/cures.py", "that each command of editcap that a message names makes a capture of Ethernet frames with the same packets; skipped without editcap", ON_PROGRAM),

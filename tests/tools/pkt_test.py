@@ -1304,11 +1304,11 @@ class Command(unittest.TestCase):
             run = subprocess.run([str(TOP / "dpv"), "build", str(path)], capture_output=True, text=True)
             self.assertEqual((run.returncode, run.stderr), (1, f"{path}:2: this line is no UTF-8 text\n  help: save the file as UTF-8\n"))
             run = subprocess.run([str(TOP / "dpv"), "build", name + "/none.pkt"], capture_output=True, text=True)
-            self.assertEqual(run.returncode, 1)
+            self.assertEqual(run.returncode, 3)
             path.write_text("drop\n")
             with open("/dev/full", "w", encoding="utf-8") as full:
                 run = subprocess.run([str(TOP / "dpv"), "build", str(path)], stdout=full, stderr=subprocess.PIPE, text=True)
-            self.assertEqual((run.returncode, run.stderr), (1, "the program cannot be written: No space left on device\n"))
+            self.assertEqual((run.returncode, run.stderr), (3, "the program cannot be written: No space left on device\n"))
 
 
 if __name__ == "__main__":

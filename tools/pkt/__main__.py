@@ -1,16 +1,18 @@
 """Usage: dpv build FILE.pkt > FILE.dpv
        dpv build --prove [--rounds N] [--seconds N] FILE.pkt
 
-Compiles a program of docs/users/pkt.md to a node program. An error is printed to standard error with its line, and gives status 1.
+Compiles a program of docs/users/pkt.md to a node program. An error is printed to standard error with its line, and gives status 1; a file that
+cannot be read or written gives status 3.
 With --prove it says whether the program does what its source says, for all packets: proved, different (status 1) or open (status 3)."""
 import argparse
 import os
 import pathlib
+import stat
 import sys
 
 sys.path.insert(0, str(pathlib.Path(__file__).resolve().parent.parent))
 
-from pkt.compiler import compiled, error_text  # noqa: E402
+from pkt.compiler import compiled, error_text, parse  # noqa: E402
 from pkt.prove.command import prove_text  # noqa: E402
 from pkt.syntax import SourceError  # noqa: E402
 
@@ -19,24 +21,29 @@ def main() -> int:
     if sys.argv[1:] in (["-h"], ["--help"]):
         print(__doc__)
         return 0
-    if sys.argv[1:2] != ["--prove"] and len(sys.argv) != 2:
-        print(__doc__.splitlines()[0], file=sys.stderr)
+    is_filter = sys.argv[1:2] == ["--filter"] and len(sys.argv) == 5
+    if sys.argv[1:2] != ["--prove"] and not is_filter and len(sys.argv) != 2:
+        print(__doc__.split("\n\n")[0], file=sys.stderr)
         return 2
     asked = asked_to_prove(sys.argv[2:]) if sys.argv[1] == "--prove" else None
-    path = pathlib.Path(asked.file if asked else sys.argv[1])
+    path = pathlib.Path(asked.file if asked else sys.argv[-1])
     try:
         source = path.read_text(encoding="utf-8")
         text, note = compiled(source, path.name, path.parent)
     except UnicodeDecodeError as error:
         row = error.object.count(b"\n", 0, error.start) + 1
         print(f"{path}:{row}: this line is no UTF-8 text\n  help: save the file as UTF-8", file=sys.stderr)
+        return 3
     except OSError as error:
         print(f"{path}: {error.strerror}", file=sys.stderr)
+        return 3
     except SourceError as error:
         print(error_text(error, str(path), source), file=sys.stderr)
     else:
         if note:
             print(f"{path}: note: {note}", file=sys.stderr)
+        if is_filter:
+            return made(text, source, path, sys.argv[2], sys.argv[3])
         return prove_text(source, text, path.parent, asked.rounds, asked.seconds) if asked else written(text)
     return 1
 
@@ -50,8 +57,23 @@ def asked_to_prove(words: list[str]) -> argparse.Namespace:
     return parser.parse_args(words)
 
 
+def made(text: str, source: str, path: pathlib.Path, output: str, to: str) -> int:
+    """Writes a program to a file, for `dpv filter` (tools/launch), unless its output is a plain file that was read. Returns the status: 0 or 3."""
+    try:
+        its = os.fstat(1) if output == "-" else os.stat(output)
+    except OSError:
+        its = None
+    read = [path, *dict.fromkeys(pathlib.Path(str(row.path)) for row in parse(source, path.parent).rows if row.path is not None)]
+    same = next((it for it in read if its and stat.S_ISREG(its.st_mode) and os.path.samestat(its, it.stat())), None)
+    if same is not None:
+        print(f"fault: file {output}\n  file: {same}\n  because: the run reads this file, so it is not overwritten", file=sys.stderr)
+        return 3
+    pathlib.Path(to).write_text(text, encoding="utf-8")
+    return 0
+
+
 def written(text: str) -> int:
-    """Prints a program. Returns the status: 0, or 1 for an output that cannot be written."""
+    """Prints a program. Returns the status: 0, or 3 for an output that cannot be written."""
     try:
         sys.stdout.write(text)
         sys.stdout.flush()
@@ -59,7 +81,7 @@ def written(text: str) -> int:
         print(f"the program cannot be written: {error.strerror}", file=sys.stderr)
         # What is left of it would be written, and fail, once more at the end.
         os.dup2(os.open(os.devnull, os.O_WRONLY), 1)
-        return 1
+        return 3
     return 0
 
 
