@@ -47,7 +47,7 @@ WRONG = [
     (["filter", "send.pkt", "in.pcap", "out.pcap", "more"], 2, "error: unexpected argument 'more' found\n"),
     (["filter", "folder.pkt", "in.pcap", "out.pcap"], 3, "fault: pipeline 5 File port 0\n  file: folder.pkt\n"),
     (["filter", "none.pkt", "in.pcap", "out.pcap"], 3, "fault: pipeline 5 File port 0\n  file: none.pkt\n"),
-    (["filter", "bytes.pkt", "in.pcap", "out.pcap"], 3, "bytes.pkt: it is no UTF-8 text\n"),
+    (["filter", "bytes.pkt", "in.pcap", "out.pcap"], 3, "bytes.pkt:1: this line is no UTF-8 text\n  help: save the file as UTF-8\n"),
     (["filter", "wrong.pkt", "in.pcap", "out.pcap"], 1, "wrong.pkt:1:1: "),
     (["build", "folder.pkt"], 3, "folder.pkt: Is a directory\n"),
     (["build", "none.pkt"], 3, "none.pkt: No such file or directory\n"),

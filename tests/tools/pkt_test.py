@@ -1302,7 +1302,7 @@ class Command(unittest.TestCase):
             self.assertIn("drop.pkt:1:1: no statement begins with 'dropp'", run.stderr)
             path.write_bytes(b"drop\n# caf\xe9\n")
             run = subprocess.run([str(TOP / "dpv"), "build", str(path)], capture_output=True, text=True)
-            self.assertEqual((run.returncode, run.stderr), (1, f"{path}:2: this line is no UTF-8 text\n  help: save the file as UTF-8\n"))
+            self.assertEqual((run.returncode, run.stderr), (3, f"{path}:2: this line is no UTF-8 text\n  help: save the file as UTF-8\n"))
             run = subprocess.run([str(TOP / "dpv"), "build", name + "/none.pkt"], capture_output=True, text=True)
             self.assertEqual(run.returncode, 3)
             path.write_text("drop\n")
