@@ -28,27 +28,30 @@ struct Session {
 /// Parses a word as a number: decimal digits, at most 4,294,967,295.
 fn number(word: &str) -> Option<u32> {
     if word.starts_with('+') {
-        None
-    } else {
-        word.parse().ok()
+        return None;
     }
+    word.parse().ok()
 }
 
-/// Parses two words, a size and an alignment.
-fn size_and_align(words: &str) -> Option<(u32, u32)> {
-    let (size, align) = words.split_once(' ')?;
-    Some((number(size)?, number(align)?))
+/// Cuts a line into its word, how many numbers follow it, and these; a number that does not follow is 0.
+fn cut(line: &[u8]) -> Option<(&str, u8, u32, u32)> {
+    let text = str::from_utf8(line).ok()?;
+    let Some((word, rest)) = text.split_once(' ') else {
+        return Some((text, 0, 0, 0));
+    };
+    match rest.split_once(' ') {
+        Some((first, second)) => Some((word, 2, number(first)?, number(second)?)),
+        None => Some((word, 1, number(rest)?, 0)),
+    }
 }
 
 /// The size of the region that a line `region N` asks for, if a region may have it.
 fn region_size(line: &[u8]) -> Option<u32>
     ensures { IfSome result IsRegionSize }
 {
-    let size = number(str::from_utf8(line).ok()?.strip_prefix("region ")?)?;
-    if size >= MIN_REGION && size <= MAX_REGION && size % CACHE_LINE == 0 {
-        Some(size)
-    } else {
-        None
+    match cut(line)? {
+        ("region", 1, size @ MIN_REGION..=MAX_REGION, _) if size % CACHE_LINE == 0 => Some(size),
+        _ => None,
     }
 }
 
@@ -87,8 +90,8 @@ impl Session {
         match made {
             Ok(block) => {
                 let offset = block.offset();
-                let number = self.taken.saturating_add(1);
-                self.taken = number;
+                self.taken = self.taken.saturating_add(1);
+                let number = self.taken;
                 match self.held.push(Held { number, block }) {
                     Ok(()) => say_block(&self.heap, number, offset, out),
                     Err(full) => {
@@ -98,9 +101,11 @@ impl Session {
                     }
                 }
             }
-            Err(HeapError::ZeroSize) => out.say("refused 1 ZeroSize\n"),
-            Err(HeapError::BadAlign) => out.say("refused 2 BadAlign\n"),
-            Err(HeapError::NoRoom) => out.say("refused 3 NoRoom\n"),
+            Err(error) => out.say(match error {
+                HeapError::ZeroSize => "refused 1 ZeroSize\n",
+                HeapError::BadAlign => "refused 2 BadAlign\n",
+                HeapError::NoRoom => "refused 3 NoRoom\n",
+            }),
         }
     }
 
@@ -133,15 +138,12 @@ impl Session {
 
     /// Runs a line, if it is a command that may come here: no second region, and none that frees a block that is not held.
     fn run(&mut self, line: &[u8], out: &mut Text) -> Option<()> {
-        let text = str::from_utf8(line).ok()?;
-        match text.split_once(' ') {
-            None if text == "list" => self.list(out),
-            None if text == "stats" => self.stats(out),
-            Some(("free", block)) => self.free(number(block)?, out)?,
-            Some((word, rest)) if word == "malloc" || word == "zmalloc" => {
-                let (size, align) = size_and_align(rest)?;
-                self.take(size, align, word == "zmalloc", out);
-            }
+        let (word, count, first, second) = cut(line)?;
+        match (word, count) {
+            ("list", 0) => self.list(out),
+            ("stats", 0) => self.stats(out),
+            ("free", 1) => return self.free(first, out),
+            ("malloc" | "zmalloc", 2) => self.take(first, second, word == "zmalloc", out),
             _ => return None,
         }
         Some(())
@@ -166,11 +168,8 @@ fn run_script(alloc: Global, script: &[u8], out: &mut Text) -> Option<usize> {
     };
     let mut fault = None;
     for (k, line) in lines {
-        if !line.is_empty() && session.run(line, out).is_none() {
+        if fault.is_none() && !line.is_empty() && session.run(line, out).is_none() {
             fault = Some(k.saturating_add(1));
-        }
-        if fault.is_some() || out.has_failed {
-            break;
         }
     }
     session.end();
