@@ -21,15 +21,6 @@ pub struct Console<O, E> {
     pub has_failed: bool,
 }
 
-/// Writes a line, and returns whether it was written. A write that failed is remembered.
-fn write_line<W: Write, T: Display + Drop>(to: &mut W, has_failed: &mut bool, text: T) -> bool
-    ensures { Prints result has_failed.old has_failed.new (W.contents to.old) (W.contents to.new) (with_newline (T.output text)) }
-{
-    let written = writeln!(to, "{text}").is_ok();
-    *has_failed |= !written;
-    written
-}
-
 impl<O: Write, E: Write> Console<O, E> {
     /// A console over these two streams.
     pub fn new(out: O, err: E) -> Console<O, E>
@@ -43,22 +34,15 @@ impl<O: Write, E: Write> Console<O, E> {
         }
     }
 
-    /// Prints a line on standard output. Returns whether it was written.
-    pub fn print_line<T: Display + Drop>(&mut self, text: T) -> bool
-        ensures printed { Prints result self.old.has_failed self.new.has_failed (O.contents self.old.out) (O.contents self.new.out)
-            (with_newline (T.output text)) }
-        ensures err { self.new.err ≡ self.old.err }
-    {
-        write_line(&mut self.out, &mut self.has_failed, text)
-    }
-
     /// Prints a line on standard error. Returns whether it was written.
     pub fn report_line<T: Display + Drop>(&mut self, text: T) -> bool
         ensures printed { Prints result self.old.has_failed self.new.has_failed (E.contents self.old.err) (E.contents self.new.err)
             (with_newline (T.output text)) }
         ensures out { self.new.out ≡ self.old.out }
     {
-        write_line(&mut self.err, &mut self.has_failed, text)
+        let written = writeln!(self.err, "{text}").is_ok();
+        self.has_failed |= !written;
+        written
     }
 
     /// Writes both texts, and returns this status; or 3 if a text could not be written, now or before.

@@ -39,13 +39,14 @@ impl Document {
 
     /// Begins a value: what stands before it, and its bracket, if it has one.
     fn begin(&mut self, name: &str, bracket: &str) {
-        let comma = if self.has_more { "," } else { "" };
-        self.has_more = bracket.is_empty();
-        if name.is_empty() {
-            self.text.say(format_args!("{comma}{bracket}"));
-        } else {
-            self.text.say(format_args!("{comma}\"{name}\":{bracket}"));
+        if self.has_more {
+            self.text.say(",");
         }
+        if !name.is_empty() {
+            self.text.say(format_args!("\"{name}\":"));
+        }
+        self.text.say(bracket);
+        self.has_more = bracket.is_empty();
     }
 
     /// Ends a value.
@@ -92,10 +93,10 @@ impl Document {
 
     /// Adds a string: what is displayed, which has UTF-8 alone.
     pub fn shown<T: Display + Drop>(&mut self, name: &str, value: T) {
-        match format!(in self.alloc; "{value}") {
-            Ok(shown) => self.item(name, Item::Text(shown.as_str())),
-            Err(_) => self.text.has_failed = true,
-        }
+        let mut text = Text::new(self.alloc);
+        text.say(value);
+        self.text.has_failed |= text.has_failed;
+        self.item(name, Item::Text(text.words()));
     }
 
     /// Adds values.

@@ -55,6 +55,23 @@ impl Text {
         self.has_failed |= self.bytes.extend_from_slice(bytes).is_err();
         !self.has_failed
     }
+
+    /// Adds words, with these numbers in place of each `$`.
+    pub fn say_numbers<N: Display + Drop + Copy>(&mut self, words: &str, numbers: &[N]) {
+        for (k, piece) in words.split('$').enumerate() {
+            if k > 0
+                && let Some(number) = numbers.get(k - 1)
+            {
+                self.say(*number);
+            }
+            self.say(piece);
+        }
+    }
+
+    /// The text as far as it has grown; empty if its bytes are no UTF-8.
+    pub fn words(&self) -> &str {
+        str::from_utf8(self.bytes.as_slice()).unwrap_or("")
+    }
 }
 
 /// What a command says on both streams, and its exit status.
