@@ -60,7 +60,8 @@ fn say_block(heap: &Heap, number: u32, offset: u32, out: &mut Text) {
     for element in heap.iter() {
         let (start, size) = (element.offset, element.size);
         if offset >= start && offset - start < size {
-            return out.say(format_args!("{number} data {offset} element {start} + {size}\n"));
+            let numbers = [number, offset, start, size];
+            return out.say_numbers("$ data $ element $ + $\n", &numbers);
         }
     }
 }
@@ -123,17 +124,17 @@ impl Session {
         for element in self.heap.iter() {
             let (offset, size, pad) = (element.offset, element.size, element.pad);
             match element.state {
-                State::Free => out.say(format_args!("FREE {offset} + {size}\n")),
-                State::Busy => out.say(format_args!("BUSY {offset} + {size} pad {pad}\n")),
+                State::Free => out.say_numbers("FREE $ + $\n", &[offset, size]),
+                State::Busy => out.say_numbers("BUSY $ + $ pad $\n", &[offset, size, pad]),
             }
         }
     }
 
     /// Says the sums over the elements.
     fn stats(&self, out: &mut Text) {
-        let all = self.heap.stats();
-        out.say(format_args!("free {} bytes {} ", all.free_count, all.free_bytes));
-        out.say(format_args!("busy {} bytes {}\n", all.busy_count, all.busy_bytes));
+        let it = self.heap.stats();
+        let numbers = [it.free_count, it.free_bytes, it.busy_count, it.busy_bytes];
+        out.say_numbers("free $ bytes $ busy $ bytes $\n", &numbers);
     }
 
     /// Runs a line, if it is a command that may come here: no second region, and none that frees a block that is not held.
