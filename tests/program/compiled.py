@@ -162,7 +162,7 @@ def programs_of(texts: Iterable[bytes]) -> list[list[Instr]]:
 
 def module(programs: list[list[Instr]]) -> str:
     """The module of some programs."""
-    code = (TOP / "crates/dp_compile/src/impls.rt").read_text()
+    code = (TOP / "crates/dp_show/src/module.rt").read_text()
     head, line, uses = (re.search(rf'{name}: &str =\s+"(.*?)";', code, re.DOTALL)[1] for name in ("HEAD", "VARIANTS", "USES"))
     head += "".join(line + names.rstrip(",") for names in textwrap.wrap(", ".join(variant for variant, _ in VARIANTS.values()), 61)) + uses
     head = re.sub(r"\\u\{(\w+)\}", lambda it: chr(int(it[1], 16)), head).replace("\\n", "\n")

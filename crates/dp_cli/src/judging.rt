@@ -32,7 +32,7 @@ fn say_more<R>(
             say_costs(alloc, pipeline, &mut *reply);
         }
         if request.flag("sizes") {
-            say_sizes(alloc, pipeline.env(), pipeline.region(), &mut reply.out);
+            say_sizes(pipeline.env(), pipeline.region(), &mut reply.out);
         }
     }
 }

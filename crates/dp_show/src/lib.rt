@@ -5,14 +5,13 @@
 //! takes; its contract says that they add up to what `need` of dp_engine returns. Tables and programs lie outside the region and are not counted.
 #![tactic(auto)]
 
-mod counted;
 mod listing;
+mod module;
 mod picture;
 mod pipeline;
 mod showing;
 mod sizes;
 mod texts;
 
-pub use counted::{Counted, counts_in};
-pub use showing::{Form, compile_reply, show};
+pub use showing::{Counted, Form, compile_reply, counts_in, show};
 pub use sizes::{PoolSize, Sizes, say_sizes, sizes_of};

@@ -1,6 +1,6 @@
 //! Lists a program: each instruction, and what is known before it.
 
-use crate::texts::{digits, is_refused_in, say_blanks, words_of};
+use crate::texts::{digits, refused_at, say_blanks};
 use dp_console::Text;
 use dp_lang::Listed;
 use dp_model::{Fact, Row};
@@ -39,32 +39,39 @@ fn changed(row: &Row, before: &Row, k: usize) -> Option<u64> {
 
 /// Says which registers have this greatest value: those from one to another.
 fn say_greatest(out: &mut Text, first: usize, last: usize, greatest: u64) {
-    out.say(format_args!("r{first}"));
-    if first < last {
-        out.say(format_args!("-r{last}"));
-    }
+    let words = if first < last { "r$-r$" } else { "r$" };
+    out.say_numbers(words, &[first, last]);
     match greatest {
         u64::MAX => out.say(" any"),
         _ => out.say(format_args!(" <= {greatest}")),
     }
 }
 
-/// Says what a row says that another one does not, with marks before the first phrase and between two. Registers of which equal greatest values are
-/// known stand together, as in `r0 <= 5`, `r1-r7 <= 0` or `r2 any`.
-fn changes(alloc: Global, row: &Row, before: &Row, first: &str, next: &str) -> Text {
+/// All that a row says, with a mark between two registers: `p0 sole, headroom 128, at most 1 segment; r0-r7 <= 0`; or, after a `+`, what it says that
+/// the row before does not, if there is one that is reached. Registers of which nothing is known are left out, and those of which equal greatest
+/// values are known stand together, as in `r0 <= 5`, `r1-r7 <= 0` or `r2 any`.
+pub fn row_text(alloc: Global, row: &Row, before: Option<&Row>, next: &str) -> Text {
     let mut out = Text::new(alloc);
-    let mut mark = first;
+    if !row.live {
+        out.say("never reached");
+        return out;
+    }
+    let (before, mut mark, none) = match before {
+        Some(before) if before.live => (*before, "+ ", "as before"),
+        _ => (UNKNOWN, "", "nothing known"),
+    };
     for k in 0..8 {
         if row.facts[k] != before.facts[k] {
-            out.say(format_args!("{mark}p{k}"));
+            out.say(mark);
+            out.say_numbers("p$", &[k]);
             say_fact(&mut out, row.facts[k], before.facts[k]);
             mark = next;
         }
     }
     let mut begin = 0;
     for k in 0..8 {
-        let greatest = changed(row, before, k);
-        if greatest.is_some() && changed(row, before, k + 1) == greatest {
+        let greatest = changed(row, &before, k);
+        if greatest.is_some() && changed(row, &before, k + 1) == greatest {
             continue;
         }
         if let Some(greatest) = greatest {
@@ -74,42 +81,19 @@ fn changes(alloc: Global, row: &Row, before: &Row, first: &str, next: &str) -> T
         }
         begin = k + 1;
     }
-    out
-}
-
-/// All that a row says, with a mark between two registers: `p0 sole, headroom 128, at most 1 segment; r0-r7 <= 0`. Registers of which nothing is
-/// known are left out.
-pub fn row_text(alloc: Global, row: &Row, mark: &str) -> Text {
-    let mut out = Text::new(alloc);
-    if !row.live {
-        out.say("never reached");
-        return out;
-    }
-    out = changes(alloc, row, &UNKNOWN, "", mark);
     if out.bytes.is_empty() {
-        out.say("nothing known");
+        out.say(none);
     }
     out
 }
 
-/// Says a row: its difference from the row before, after a `+`, if that is not longer; else all of it.
-pub fn say_row_after(alloc: Global, out: &mut Text, row: &Row, before: Option<&Row>) {
-    let mut text = row_text(alloc, row, "; ");
-    out.has_failed |= text.has_failed;
-    if let Some(before) = before
-        && before.live
-        && row.live
-    {
-        let mut change = changes(alloc, row, before, "+ ", "; ");
-        if change.bytes.is_empty() {
-            change.say("as before");
-        }
-        out.has_failed |= change.has_failed;
-        if change.bytes.len() <= text.bytes.len() {
-            text = change;
-        }
-    }
-    out.say(words_of(&text));
+/// Says a row: its difference from the row before, if that is not longer; else all of it.
+fn say_row(alloc: Global, out: &mut Text, row: &Row, before: Option<&Row>) {
+    let all = row_text(alloc, row, None, "; ");
+    let new = row_text(alloc, row, before, "; ");
+    out.has_failed |= all.has_failed || new.has_failed;
+    let is_longer = new.bytes.len() > all.bytes.len();
+    out.say(if is_longer { all.words() } else { new.words() });
 }
 
 /// The width of an instruction's labels: a colon and a blank after each.
@@ -132,10 +116,9 @@ pub fn say_listing(alloc: Global, out: &mut Text, judged: &Judged<'_>, source: &
         text_width = written.text.len().max(text_width);
     }
     let width = digits(source.len().saturating_sub(1));
-    let mut before = None;
+    let (refused, mut before) = (refused_at(verdict), None);
     for (number, (written, row)) in source.iter().zip(judged.cert.rows()).enumerate() {
-        let is_refused = is_refused_in(verdict, number, number.saturating_add(1));
-        out.say(if is_refused { "> " } else { "  " });
+        out.say(if number == refused { "> " } else { "  " });
         say_blanks(out, " ", digits(number), width);
         out.say(format_args!("{number}  "));
         for label in written.labels.as_slice() {
@@ -147,7 +130,7 @@ pub fn say_listing(alloc: Global, out: &mut Text, judged: &Judged<'_>, source: &
         }
         out.say(written.text);
         say_blanks(out, " ", written.text.len(), text_width.saturating_add(2));
-        say_row_after(alloc, out, row, before);
+        say_row(alloc, out, row, before);
         out.say("\n");
         before = Some(row);
     }

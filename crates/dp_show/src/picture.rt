@@ -3,7 +3,7 @@
 ghost use Rattle.std.specs.Prelude.{◌≤◌};
 
 use crate::listing::row_text;
-use crate::texts::{Escaped, digits, is_refused_in, say_blanks, words_of};
+use crate::texts::{digits, refused_at, say_blanks, say_escaped};
 use dp_console::Text;
 use dp_counts::ReadCount;
 use dp_lang::{Listed, arguments_of};
@@ -11,8 +11,8 @@ use dp_model::Instr;
 use dp_verdict::Judged;
 use std::alloc::Global;
 
-/// The attributes of a picture, of its boxes and of its arrows.
-const ATTRIBUTES: &str = "  labelloc=t;\n  fontname=monospace;\n  \
+/// What comes after the verdict: the attributes of a picture, of its boxes and of its arrows.
+const ATTRIBUTES: &str = "\";\n  labelloc=t;\n  fontname=monospace;\n  \
     node [shape=box, fontname=monospace, margin=\"0.05,0.05\"];\n  edge [fontname=monospace];\n";
 
 /// The attributes of a box: red if one of its instructions is refused, grey if control never reaches it.
@@ -71,11 +71,17 @@ impl Picture<'_> {
     /// Whether a box ends with this instruction.
     fn ends(self, last: usize) -> bool {
         let next = last.saturating_add(1);
-        next >= self.len()
-            || !self.goes_on(last)
-            || (self.all && self.target(last).is_some())
-            || (!self.all && self.is_live(last) != self.is_live(next))
-            || (0..self.len()).any(|other| self.target(other) == Some(next))
+        for other in 0..self.len() {
+            if self.target(other) == Some(next) {
+                return true;
+            }
+        }
+        let is_cut = if self.all {
+            self.target(last).is_some()
+        } else {
+            self.is_live(last) != self.is_live(next)
+        };
+        is_cut || next >= self.len() || !self.goes_on(last)
     }
 
     /// The instruction to which this one jumps, if it is the first one of its box that does, and how often all of them did.
@@ -96,65 +102,65 @@ impl Picture<'_> {
     }
 
     /// Says the line of an instruction: its number, its text and its comment.
-    fn say_step(self, out: &mut Text, number: usize) {
-        let is_refused = is_refused_in(self.judged.verdict, number, number.saturating_add(1));
-        let color = if is_refused {
-            " BGCOLOR=\"#ff9c9c\""
-        } else {
-            ""
-        };
-        let (text, comment) = match self.source.get(number) {
-            Some(written) => (Escaped(written.text), Escaped(written.comment)),
-            None => (Escaped(""), Escaped("")),
-        };
+    fn say_step(self, out: &mut Text, number: usize, written: &Listed<'_>) {
+        let red = refused_at(self.judged.verdict) == number;
+        let color = if red { " BGCOLOR=\"#ff9c9c\"" } else { "" };
         out.say(format_args!("<TR><TD ALIGN=\"LEFT\"{color}>"));
         let width = digits(self.len().saturating_sub(1));
         say_blanks(out, "&#160;", digits(number), width);
-        out.say(format_args!("{number}&#160; {text}</TD><TD ALIGN=\"LEFT\"{color}>"));
-        if !comment.0.is_empty() {
-            out.say(format_args!("<FONT COLOR=\"#607080\"># {comment}</FONT>"));
+        out.say_numbers("$&#160; ", &[number]);
+        say_escaped(out, written.text);
+        out.say(format_args!("</TD><TD ALIGN=\"LEFT\"{color}>"));
+        if !written.comment.is_empty() {
+            out.say("<FONT COLOR=\"#607080\"># ");
+            say_escaped(out, written.comment);
+            out.say("</FONT>");
         }
         out.say("</TD></TR>\n");
     }
 
     /// Says a box: the labels and what is known at its head, a line for each register, and its instructions.
     fn say_box(self, out: &mut Text, first: usize, end: usize) {
-        out.say(format_args!(
-            "  L{first} [label=<<TABLE BORDER=\"0\" CELLBORDER=\"0\" CELLSPACING=\"0\">\n"
-        ));
+        let words = "  L$ [label=<<TABLE BORDER=\"0\" CELLBORDER=\"0\" CELLSPACING=\"0\">\n";
+        out.say_numbers(words, &[first]);
         if let Some(written) = self.source.get(first) {
             for label in written.labels.as_slice() {
-                let label = Escaped(label);
-                out.say(format_args!(
-                    "<TR><TD COLSPAN=\"2\" ALIGN=\"LEFT\"><B>{label}:</B></TD></TR>\n"
-                ));
+                out.say("<TR><TD COLSPAN=\"2\" ALIGN=\"LEFT\"><B>");
+                say_escaped(out, label);
+                out.say(":</B></TD></TR>\n");
             }
         }
         if let Some(row) = self.judged.cert.rows().get(first) {
-            let text = row_text(self.alloc, row, "\n");
+            let text = row_text(self.alloc, row, None, "\n");
             out.has_failed |= text.has_failed;
-            let known = Escaped(words_of(&text));
             out.say("<TR><TD COLSPAN=\"2\" ALIGN=\"LEFT\" BGCOLOR=\"#e8eef4\">");
-            out.say(format_args!(
-                "<FONT POINT-SIZE=\"11\">{known}<BR ALIGN=\"LEFT\"/></FONT></TD></TR>\n"
-            ));
+            out.say("<FONT POINT-SIZE=\"11\">");
+            say_escaped(out, text.words());
+            out.say("<BR ALIGN=\"LEFT\"/></FONT></TD></TR>\n");
         }
         for number in first..end {
-            self.say_step(out, number);
+            if let Some(written) = self.source.get(number) {
+                self.say_step(out, number, written);
+            }
         }
-        let is_refused = is_refused_in(self.judged.verdict, first, end);
-        let mark = attributes(self.is_live(first), is_refused);
-        out.say(format_args!("</TABLE>>{mark}];\n"));
+        out.say("</TABLE>>");
+        let refused = refused_at(self.judged.verdict);
+        let is_refused = first <= refused && refused < end;
+        out.say(attributes(self.is_live(first), is_refused));
+        out.say("];\n");
     }
 
     /// Says an arrow, and if it is counted its count, and its width by the logarithm of that, from 1 to 8 points.
-    fn say_arrow(self, out: &mut Text, style: &str, from: usize, to: usize, count: u64) {
-        let most = self.counts.iter().map(|counted| counted.ran).max();
-        out.say(format_args!("  L{from} -> L{to} [style={style}"));
+    fn say_arrow(self, out: &mut Text, words: &str, from: usize, to: usize, count: u64) {
+        out.say_numbers(words, &[from, to]);
         if !self.counts.is_empty() {
-            let tenths = 10 + (70 * logarithm(count) / logarithm(most.unwrap_or(0)).max(1)).min(70);
-            let (whole, part) = (tenths / 10, tenths % 10);
-            out.say(format_args!(", label=\" {count}\", penwidth={whole}.{part}"));
+            let mut most = 0;
+            for counted in self.counts {
+                most = most.max(counted.ran);
+            }
+            let tenths = 10 + (70 * logarithm(count) / logarithm(most).max(1)).min(70);
+            let numbers = [count, tenths / 10, tenths % 10];
+            out.say_numbers(", label=\" $\", penwidth=$.$", &numbers);
         }
         out.say("];\n");
     }
@@ -167,19 +173,20 @@ impl Picture<'_> {
                 Some(count) => count.ran.saturating_sub(count.taken.unwrap_or(0)),
                 None => 0,
             };
-            self.say_arrow(out, "solid", first, end, count);
+            self.say_arrow(out, "  L$ -> L$ [style=solid", first, end, count);
         }
         for number in first..end {
             if let Some((to, count)) = self.jump_of(first, number, end) {
-                self.say_arrow(out, "dashed", first, to, count);
+                self.say_arrow(out, "  L$ -> L$ [style=dashed", first, to, count);
             }
         }
     }
 
     /// Says the picture. One of joined boxes is drawn no larger than a page of A4.
     pub fn say(self, out: &mut Text) {
-        let verdict = self.judged.verdict;
-        out.say(format_args!("digraph program {{\n  label=\"{verdict}\";\n{ATTRIBUTES}"));
+        out.say("digraph program {\n  label=\"");
+        out.say(self.judged.verdict);
+        out.say(ATTRIBUTES);
         if !self.all {
             out.say("  size=\"7.5,10.9\";\n");
         }

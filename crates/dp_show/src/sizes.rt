@@ -7,7 +7,7 @@ ghost use Rattle.dp_model.specs.Environments.{pool_fits};
 ghost use Rattle.dp_engine.specs.Needs.{zone_bytes, ring_bytes, bytes_needed};
 ghost use Rattle.dp_show.specs.Sizes as spec;
 
-use crate::texts::words_of;
+use crate::texts::say_blanks;
 use arrayvec::ArrayVec;
 use dp_console::Text;
 use dp_engine::need;
@@ -15,8 +15,6 @@ use dp_heap::HEADER_LEN;
 use dp_mbuf::HEADER_SIZE;
 use dp_model::{Env, PoolSpec, PortSpec, RingSpec};
 use dp_region::CACHE_LINE;
-use std::alloc::Global;
-use std::fmt::Display;
 
 /// The bytes that a pool takes: those of the zone of its buffers, and those of the zone of its queue.
 #[derive(Clone, Copy, Default)]
@@ -112,58 +110,47 @@ pub fn sizes_of(env: &Env) -> Sizes
     each_of(env)
 }
 
-/// Says a line: the pool, ring or port, what it has, and the bytes of that.
-fn say_part<T: Display + Drop>(
-    alloc: Global,
-    out: &mut Text,
-    kind: &str,
-    number: usize,
-    has: T,
-    bytes: u64,
-) {
-    let mut part = Text::new(alloc);
-    part.say(has);
-    out.has_failed |= part.has_failed;
-    let words = words_of(&part);
-    out.say(format_args!("{kind} {number}  {words:<34}{bytes:>12}\n"));
-}
-
-/// Says a line of a sum.
-fn say_sum(out: &mut Text, name: &str, bytes: u64) {
-    out.say(format_args!("{name:<42}{bytes:>12}\n"));
+/// Says a line: words with these numbers in place of each `$`, and bytes.
+fn say_line(out: &mut Text, words: &str, numbers: &[usize], bytes: u64) {
+    let start = out.bytes.len();
+    out.say_numbers(words, numbers);
+    let there = out.bytes.len().saturating_sub(start);
+    say_blanks(out, " ", there, 42);
+    out.say(format_args!("{bytes:>12}\n"));
 }
 
 /// Says the lines of the pools, the rings and the ports.
-fn say_parts(alloc: Global, out: &mut Text, env: &Env) {
+fn say_parts(out: &mut Text, env: &Env) {
     let sizes = sizes_of(env);
     for (k, (pool, size)) in env.pools().iter().zip(sizes.pools.as_slice()).enumerate() {
-        let (count, room) = (pool.count, pool.room);
-        let buffers = format_args!("{count} buffers with room {room}");
-        say_part(alloc, out, "pool", k, buffers, size.buffers);
-        let queue = "the queue of free buffers";
-        say_part(alloc, out, "pool", k, queue, size.queue);
+        let numbers = [k, pool.count as usize, pool.room as usize];
+        say_line(out, "pool $  $ buffers with room $", &numbers, size.buffers);
+        say_line(
+            out,
+            "pool $  the queue of free buffers",
+            &numbers,
+            size.queue,
+        );
     }
     for (k, (ring, bytes)) in env.rings().iter().zip(sizes.rings.as_slice()).enumerate() {
-        let count = ring.count;
-        say_part(alloc, out, "ring", k, format_args!("{count} slots"), *bytes);
+        say_line(out, "ring $  $ slots", &[k, ring.count as usize], *bytes);
     }
     for (k, (port, bytes)) in env.ports().iter().zip(sizes.lists.as_slice()).enumerate() {
-        let count = port.queue;
-        let slots = format_args!("transmit list of {count} slots");
-        say_part(alloc, out, "port", k, slots, *bytes);
+        let numbers = [k, port.queue as usize];
+        say_line(out, "port $  transmit list of $ slots", &numbers, *bytes);
     }
 }
 
 /// Says a table with a line for each zone that the engine of an environment takes, the sum of these lines, the size of the region and what is left
 /// of it, or missing, all in bytes.
-pub fn say_sizes(alloc: Global, env: &Env, region: u32, out: &mut Text) {
+pub fn say_sizes(env: &Env, region: u32, out: &mut Text) {
     let (needed, region) = (need(env), u64::from(region));
-    say_parts(alloc, out, env);
-    say_sum(out, "sum", needed);
-    say_sum(out, "region", region);
+    say_parts(out, env);
+    say_line(out, "sum", &[], needed);
+    say_line(out, "region", &[], region);
     if needed <= region {
-        say_sum(out, "left", region - needed);
+        say_line(out, "left", &[], region - needed);
     } else {
-        say_sum(out, "missing", needed - region);
+        say_line(out, "missing", &[], needed - region);
     }
 }
