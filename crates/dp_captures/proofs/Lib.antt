@@ -1,4 +1,3 @@
-pub mod Added
 pub mod Chosen
 pub mod Took
 pub mod Guarding

@@ -17,8 +17,8 @@ use Rattle.dp_captures.specs.declared.watched.Watched.{Watched}
 use Rattle.dp_captures.specs.declared.words.Place.{Place}
 use Rattle.dp_captures.specs.Files.{AreOpened}
 use Rattle.dp_captures.specs.Guarding.{AreApart, AreFilesOf, AreGuarded, output_target, targets}
-use Rattle.dp_captures.specs.Names.{output_capture}
-use Rattle.dp_captures.specs.Opening.{IsOf, IsOutput}
+use Rattle.dp_captures.specs.Names.{input_capture, output_capture}
+use Rattle.dp_captures.specs.Opening.{IsInput, IsOf, IsOutput}
 
 -- one element more of a list
 pub index_more : {B C : Type 0} (g : B → C) (bs : List B) (k : ℕ) (d : B) → k < length bs
@@ -53,6 +53,11 @@ at_index (n ∷ names) (suc k) default within = at_index names k default (omega 
 named_at : (capture_of : CaptureNames → Place × List ℕ) (names : List CaptureNames) (k : ℕ) (name default : CaptureNames) (named : List ℕ) → k < length names
     → name ≡ slice_index_or names k default → named ≡ (capture_of name).1 → option_map (λ (n : CaptureNames). (capture_of n).1) (slice_get names k) ≡ Some named
 named_at capture_of names k name default named within at is = rw (at_index names k default within, ← at, is) refl
+
+pub input_named : (names : List CaptureNames) (k : ℕ) (name default : CaptureNames) (f : CaptureFault) → k < length names
+    → name ≡ slice_index_or names k default → IsOf (input_capture name).1 f → IsInput names k f
+input_named names k name default fault.Memory within at is = tt
+input_named names k name default (fault.File named problem) within at is = named_at input_capture names k name default named.now within at is
 
 pub output_named : (names : List CaptureNames) (k : ℕ) (name default : CaptureNames) (f : CaptureFault) → k < length names
     → name ≡ slice_index_or names k default → IsOf (output_capture name).1 f → IsOutput names f

@@ -3,88 +3,75 @@
 ghost use Rattle.std.specs.Prelude.{◌≡◌};
 ghost use Rattle.dp_captures.specs.Opening.{IsOf};
 
-use crate::watched::Inlet;
+use crate::watched::{Inlet, Seen};
 use dp_pcap::PcapError;
 use std::fmt;
 use std::io::Error;
 
-/// The format of a file that is no capture, but of which a command makes captures.
-#[derive(Clone, Copy, PartialEq, Eq)]
-pub enum Format {
-    Pcapng,
-    Gzip,
-    Bzip2,
-    Xz,
-    Zstd,
-    Lz4,
-}
-
-/// How files of these formats begin.
-static BEGINNINGS: [(&[u8], Format); 6] = [
-    (b"\x0a\x0d\x0d\x0a", Format::Pcapng),
-    (b"\x1f\x8b", Format::Gzip),
-    (b"BZh", Format::Bzip2),
-    (b"\xfd7zXZ\0", Format::Xz),
-    (b"\x28\xb5\x2f\xfd", Format::Zstd),
-    (b"\x04\x22\x4d\x18", Format::Lz4),
+/// How files begin that are no captures, but of which a command makes captures, and the program that unpacks them; a pcapng file is converted.
+static FORMATS: [(&[u8], &str); 6] = [
+    (b"\x0a\x0d\x0d\x0a", ""),
+    (b"\x1f\x8b", "gzip"),
+    (b"BZh", "bzip2"),
+    (b"\xfd7zXZ\0", "xz"),
+    (b"\x28\xb5\x2f\xfd", "zstd"),
+    (b"\x04\x22\x4d\x18", "lz4"),
 ];
 
-impl Format {
-    /// The format of a file that begins with these bytes, if it is one of these.
-    pub fn of(bytes: &[u8]) -> Option<Format> {
-        let found = BEGINNINGS.iter().find(|one| bytes.starts_with(one.0))?;
-        Some(found.1)
-    }
-}
-
-impl fmt::Display for Format {
-    /// What it is, and the command that makes a capture of it.
-    fn fmt<W: fmt::Write>(&self, f: &mut fmt::Formatter<W>) -> fmt::Result {
-        let tool = match self {
-            Format::Pcapng => return f.write_str(PCAPNG),
-            Format::Gzip => "gzip",
-            Format::Bzip2 => "bzip2",
-            Format::Xz => "xz",
-            Format::Zstd => "zstd",
-            Format::Lz4 => "lz4",
-        };
-        write!(f, "it is compressed by {tool}; ")?;
-        write!(f, "{tool} -dc IN > OUT unpacks it")
-    }
-}
-
-const PCAPNG: &str = "it is a pcapng file; editcap -F pcap IN OUT converts it to a capture";
-
-/// The field of the link type in a capture's header: the type in its lower half, and in its upper half whether frames end with a checksum.
-#[derive(Clone, Copy, PartialEq, Eq)]
-pub struct LinkType(pub u32);
-
-impl fmt::Display for LinkType {
-    fn fmt<W: fmt::Write>(&self, f: &mut fmt::Formatter<W>) -> fmt::Result {
-        let (number, upper) = (self.0 % 65_536, self.0 / 65_536);
-        // The name in the registry of link types, after a blank; nothing for other types.
-        let name = match number {
-            0 => " NULL",
-            1 => " ETHERNET",
-            9 => " PPP",
-            101 => " RAW",
-            105 => " IEEE802_11",
-            108 => " LOOP",
-            113 => " LINUX_SLL",
-            127 => " IEEE802_11_RADIOTAP",
-            147..=162 => " USER",
-            228 => " IPV4",
-            229 => " IPV6",
-            276 => " LINUX_SLL2",
-            _ => "",
-        };
-        write!(f, "the link type is {number}{name}")?;
-        if upper == 0 {
-            return f.write_str(", and not 1 ETHERNET");
+/// The format of a file that begins with these bytes: its place among these, if it is one of them.
+pub fn format_of(bytes: &[u8]) -> Option<usize> {
+    for (place, (front, _)) in FORMATS.iter().enumerate() {
+        if bytes.starts_with(front) {
+            return Some(place);
         }
-        write!(f, " with {upper} in the upper 16 bits")?;
-        f.write_str(", and not 1 ETHERNET alone")
     }
+    None
+}
+
+/// Writes what a file of this format is, and the command that makes a capture of it.
+fn write_format<W: fmt::Write>(format: usize, f: &mut fmt::Formatter<W>) -> fmt::Result {
+    match FORMATS.get(format) {
+        Some((_, tool)) if !tool.is_empty() => {
+            write!(
+                f,
+                "it is compressed by {tool}; {tool} -dc IN > OUT unpacks it"
+            )
+        }
+        _ => f.write_str("it is a pcapng file; editcap -F pcap IN OUT converts it to a capture"),
+    }
+}
+
+/// A link type: its name in the registry after a blank, nothing for types that are not here; and the place of what helps.
+fn described(number: u32) -> (&'static str, u8) {
+    match number {
+        0 => (" NULL", 0),
+        1 => (" ETHERNET", 1),
+        9 => (" PPP", 0),
+        101 => (" RAW", 0),
+        105 => (" IEEE802_11", 2),
+        108 => (" LOOP", 0),
+        113 => (" LINUX_SLL", 3),
+        127 => (" IEEE802_11_RADIOTAP", 2),
+        147..=162 => (" USER", 5),
+        228 => (" IPV4", 0),
+        229 => (" IPV6", 0),
+        276 => (" LINUX_SLL2", 4),
+        _ => ("", 5),
+    }
+}
+
+/// Writes the link type in the lower half of a header's field; its upper half says whether frames end with a checksum.
+fn write_link<W: fmt::Write>(link: u32, f: &mut fmt::Formatter<W>) -> fmt::Result {
+    let (number, upper) = (link % 65_536, link / 65_536);
+    let name = described(number).0;
+    write!(f, "the link type is {number}{name}")?;
+    if upper == 0 {
+        return f.write_str(", and not 1 ETHERNET");
+    }
+    write!(
+        f,
+        " with {upper} in the upper 16 bits, and not 1 ETHERNET alone"
+    )
 }
 
 /// Why a capture is at fault.
@@ -102,10 +89,10 @@ pub enum CaptureReason {
     IsStderr,
     /// What is wrong with the capture.
     Capture(PcapError),
-    /// The input has another format, of which a command makes captures.
-    Other(Format),
-    /// The link type of the input, which is not read.
-    Link(LinkType),
+    /// The input has another format, of which a command makes captures: its place in their table.
+    Other(usize),
+    /// The field of the link type in the input's header, if that is not read.
+    Link(u32),
 }
 
 impl fmt::Display for CaptureReason {
@@ -113,8 +100,8 @@ impl fmt::Display for CaptureReason {
         let words = match self {
             CaptureReason::System(error) => return write!(f, "{error}"),
             CaptureReason::Capture(error) => return write!(f, "{error}"),
-            CaptureReason::Link(link) => return write!(f, "{link}"),
-            CaptureReason::Other(format) => return write!(f, "{format}"),
+            CaptureReason::Link(link) => return write_link(*link, f),
+            CaptureReason::Other(format) => return write_format(*format, f),
             CaptureReason::IsRead => "the run reads this file, so it is not overwritten",
             CaptureReason::IsOutput => "another port writes this file, too",
             CaptureReason::IsStdout => "standard output goes to this file, too",
@@ -130,16 +117,15 @@ impl CaptureReason {
         let CaptureReason::Link(link) = self else {
             return None;
         };
-        let cure = match link.0 % 65_536 {
+        let cure = match described(link % 65_536).1 {
+            0 => "capture on an Ethernet interface: these records have no Ethernet headers",
             1 =>
                 "remove the checksums at the ends of the frames: editcap -F pcap -T ether -L -C -4 IN OUT",
-            113 =>
-                "capture on one Ethernet interface in place of any, or make Ethernet headers of these: editcap -F pcap -T ether -L -C 2 IN OUT",
-            276 => "capture on one Ethernet interface in place of any",
-            105 | 127 =>
+            2 =>
                 "capture on an Ethernet interface, or on a wireless one that is not in monitor mode",
-            0 | 9 | 101 | 108 | 228 | 229 =>
-                "capture on an Ethernet interface: these records have no Ethernet headers",
+            3 =>
+                "capture on one Ethernet interface in place of any, or make Ethernet headers of these: editcap -F pcap -T ether -L -C 2 IN OUT",
+            4 => "capture on one Ethernet interface in place of any",
             _ =>
                 "if each record really is an Ethernet frame: editcap -F pcap -T ether IN OUT; else capture on an Ethernet interface",
         };
@@ -176,8 +162,9 @@ pub fn fault_at<'a>(name: &'a str, file: Option<&'a str>, reason: CaptureReason)
 
 /// The reason for a fault of an input: the system's error if its reader failed, otherwise the fault of the capture.
 pub fn reason_of_input<I: Inlet>(cause: PcapError, input: Option<&I>) -> CaptureReason {
-    let Some(seen) = input.and_then(|input| input.seen()) else {
-        return CaptureReason::Capture(cause);
+    let seen = match input {
+        Some(input) => input.seen(),
+        None => Seen::default(),
     };
     match (cause, seen.failure, seen.link, seen.format) {
         (PcapError::Read, Some(error), _, _) => CaptureReason::System(error),

@@ -19,7 +19,7 @@ mod output_file;
 mod watched;
 mod words;
 
-pub use faults::{CaptureFault, CaptureProblem, CaptureReason, Format, LinkType, reason_of_input};
+pub use faults::{CaptureFault, CaptureProblem, CaptureReason, reason_of_input};
 pub use file_id::{FileId, ReadFile, note_read};
 pub use guarded::Guarded;
 pub use input_file::InputFile;
@@ -32,6 +32,5 @@ pub use outlet::{Incomplete, Outlet};
 pub use output_file::OutputFile;
 pub use watched::{Inlet, Progress, Seen, Watched};
 pub use words::{
-    Direction, Place, Replaced, Replacements, WordForm, WordProblem, captures_of, nowhere_in,
-    replaced_in,
+    Direction, Place, Replaced, Replacements, WordForm, WordProblem, captures_of, given_by,
 };

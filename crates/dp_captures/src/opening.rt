@@ -50,26 +50,20 @@ fn unopened<'a>(name: &'a str, error: Error) -> CaptureFault<'a>
     }
 }
 
-/// Opens the capture that a port reads, or says why it cannot be opened.
-fn open_input<'a, R: Files>(
+/// Opens the capture that a port reads.
+fn open_input<R: Files>(
     rt: &R,
     alloc: Global,
-    streams: Streams,
-    port: &'a CaptureNames,
+    stdin: Stdin,
+    port: &CaptureNames,
     progress: Progress,
-) -> Result<InputOf<R::File>, CaptureFault<'a>>
-    ensures opened { IfOk result (IsOpenedInput (input_capture port.now)) }
-    ensures named { IfErr result (spec.IsOf (input_capture port.now).1) }
+) -> Result<InputOf<R::File>, Error>
+    ensures { IfOk result (IsOpenedInput (input_capture port.now)) }
 {
     let name = port.input.as_str();
-    let file = match open_input_file(rt, streams.input, port.input_place, name) {
-        Ok(file) => file,
-        Err(error) => return Err(unopened(name, error)),
-    };
-    match BufReader::with_capacity(alloc, BUFFER, Watched::new(file, progress, name)) {
-        Ok(reader) => Ok(OfBufReader::new(reader)),
-        Err(_) => Err(CaptureFault::Memory),
-    }
+    let file = open_input_file(rt, stdin, port.input_place, name)?;
+    let watched = Watched::new(file, progress, name);
+    Ok(OfBufReader::new(BufReader::with_capacity(alloc, BUFFER, watched)?))
 }
 
 /// Opens the inputs of a run, in port order, up to the first that cannot be opened.
@@ -90,9 +84,13 @@ pub fn open_inputs<'a, R: Files>(
     ensures all { OnOk result (length inputs.new.items ≡ length names.now) }
     ensures first { IfErr result (spec.IsInput names.now (length inputs.new.items)) }
 {
+    let to = is_progress.then_some(streams.error);
     for (port, files) in names.iter().enumerate() {
-        let progress = Progress::new(streams.error, port, is_progress);
-        let input = open_input(rt, alloc, streams, files, progress)?;
+        let progress = Progress::new(to, port);
+        let input = match open_input(rt, alloc, streams.input, files, progress) {
+            Ok(input) => input,
+            Err(error) => return Err(unopened(files.input.as_str(), error)),
+        };
         if inputs.push(input).is_err() {
             return Err(CaptureFault::Memory);
         }
@@ -101,32 +99,26 @@ pub fn open_inputs<'a, R: Files>(
 }
 
 /// Opens an output, with a buffer of this size. The old content of a file is kept until its header is written.
-fn open_output<'a, R: Files>(
+fn open_output<R: Files>(
     rt: &R,
     alloc: Global,
-    streams: Streams,
-    port: &'a CaptureNames,
+    stdout: Stdout,
+    port: &CaptureNames,
     buffer: usize,
-) -> Result<OutputOf<R::File>, CaptureFault<'a>>
-    ensures opened { IfOk result (IsOpenedOutput (output_capture port.now)) }
-    ensures named { IfErr result (spec.IsOf (output_capture port.now).1) }
+) -> Result<OutputOf<R::File>, Error>
+    ensures { IfOk result (IsOpenedOutput (output_capture port.now)) }
 {
     let name = port.output.as_str();
-    let file = match open_output_file(rt, streams.output, port.output_place, name) {
-        Ok(file) => file,
-        Err(error) => return Err(unopened(name, error)),
-    };
-    match Buffered::with_capacity(alloc, buffer, Guarded::new(file, name)) {
-        Ok(writer) => Ok(OfBufWriter::new(writer)),
-        Err(_) => Err(CaptureFault::Memory),
-    }
+    let file = open_output_file(rt, stdout, port.output_place, name)?;
+    let guarded = Guarded::new(file, name);
+    Ok(OfBufWriter::new(Buffered::with_capacity(alloc, buffer, guarded)?))
 }
 
 /// Opens the outputs of a run, in port order, up to the first that cannot be made.
 fn open_outputs<'a, R: Files>(
     rt: &R,
     alloc: Global,
-    streams: Streams,
+    stdout: Stdout,
     names: &'a [CaptureNames],
     buffer: usize,
     outputs: &mut Vec<OutputOf<R::File>>,
@@ -137,9 +129,9 @@ fn open_outputs<'a, R: Files>(
     ensures first { IfErr result (spec.IsOutput names.now) }
 {
     for port in names {
-        let output = match open_output(rt, alloc, streams, port, buffer) {
+        let output = match open_output(rt, alloc, stdout, port, buffer) {
             Ok(output) => output,
-            Err(fault) => return Err(fault),
+            Err(error) => return Err(unopened(port.output.as_str(), error)),
         };
         if outputs.push(output).is_err() {
             return Err(CaptureFault::Memory);
@@ -182,7 +174,7 @@ pub fn open_captures<'a, R: Files>(
     if let Err(fault) = refuse_named(rt, kept, names) {
         return Err(fault);
     }
-    if let Err(fault) = open_outputs(rt, alloc, streams, names, buffer, outputs) {
+    if let Err(fault) = open_outputs(rt, alloc, streams.output, names, buffer, outputs) {
         return Err(fault);
     }
     let Ok(kept) = files_of_run(rt, alloc, reads, names, inputs.as_slice()) else {
@@ -202,14 +194,6 @@ fn remove_if_empty<R: Files>(rt: &R, alloc: Global, name: &str, id: FileId) {
     }
 }
 
-/// The file of an output, if the run made it and wrote no byte of it, or could not.
-fn made_in_vain<F: Write + OpenFile + Drop>(output: &OutputOf<F>) -> Option<FileId> {
-    let guarded = output.get_ref().get_ref();
-    let file = guarded.get_ref();
-    let is_vain = file.is_new && (!file.is_emptied || guarded.failure().is_some());
-    if is_vain { file.id } else { None }
-}
-
 /// Removes the outputs that were made when they were opened and are still empty, as those of a run that ended before its headers were written. Files
 /// that existed before stay.
 pub fn remove_empty_outputs<R: Files>(
@@ -219,7 +203,12 @@ pub fn remove_empty_outputs<R: Files>(
     outputs: &[OutputOf<R::File>],
 ) {
     for (port, output) in names.iter().zip(outputs) {
-        if let Some(id) = made_in_vain(output) {
+        let guarded = output.get_ref().get_ref();
+        let file = guarded.get_ref();
+        if file.is_new
+            && (!file.is_emptied || guarded.failure().is_some())
+            && let Some(id) = file.id
+        {
             remove_if_empty(rt, alloc, port.output.as_str(), id);
         }
     }

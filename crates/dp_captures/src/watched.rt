@@ -2,7 +2,7 @@
 
 ghost use Rattle.std.specs.Prelude.{◌≡◌, ◌∷◌, []};
 
-use crate::faults::{Format, LinkType};
+use crate::faults::format_of;
 use dp_pcap::{Feed, OfBufReader, Offers, WholeRecords, link_type};
 use std::io::{Error, ErrorKind, Read, Result, Stderr, Write};
 
@@ -12,35 +12,32 @@ const STEP: u64 = 1_000_000;
 /// Counts the records of a port's capture as its bytes are read, and reports each step on standard error if asked to.
 #[derive(Drop)]
 pub struct Progress {
-    to: Stderr,
+    // Where steps are reported; no more once a line could not be written.
+    to: Option<Stderr>,
     port: usize,
-    // Whether steps are reported; no more once a line could not be written.
-    is_on: bool,
     records: WholeRecords,
 }
 
 impl Progress {
     /// The progress of a port before its capture is read.
-    pub fn new(to: Stderr, port: usize, is_on: bool) -> Progress {
-        Progress {
-            to,
-            port,
-            is_on,
-            records: WholeRecords::new(),
-        }
+    pub fn new(to: Option<Stderr>, port: usize) -> Progress {
+        let records = WholeRecords::new();
+        Progress { to, port, records }
     }
 
     /// Counts more of its bytes. Reports the step that its records then reached, if any.
     fn pass(&mut self, bytes: &[u8]) {
-        if !self.is_on {
+        let Some(mut to) = self.to else {
             return;
-        }
+        };
         let before = self.records.count();
         self.records.pass(bytes);
         let after = self.records.count();
         if before / STEP < after / STEP {
-            let (mut to, port, records) = (self.to, self.port, after - after % STEP);
-            self.is_on = writeln!(to, "progress: port {port}: {records} records read").is_ok();
+            let (port, records) = (self.port, after - after % STEP);
+            if writeln!(to, "progress: port {port}: {records} records read").is_err() {
+                self.to = None;
+            }
         }
     }
 }
@@ -50,10 +47,10 @@ impl Progress {
 pub struct Seen {
     /// The error with which its last read failed.
     pub failure: Option<Error>,
-    /// The format as which it begins, if a command makes captures of that.
-    pub format: Option<Format>,
-    /// The link type in its header, if the first read has the whole header of a capture.
-    pub link: Option<LinkType>,
+    /// The format as which it begins, if a command makes captures of that: its place in their table.
+    pub format: Option<usize>,
+    /// The field of the link type in its header, if the first read has the whole header of a capture.
+    pub link: Option<u32>,
 }
 
 /// A reader that keeps the error of a failed read, and what its first bytes show. It counts the records that it passes on, and reports progress.
@@ -100,8 +97,8 @@ impl<R: Read> Watched<R> {
     {
         if !self.is_begun {
             self.is_begun = true;
-            self.seen.format = Format::of(bytes);
-            self.seen.link = link_type(bytes).map(|field| LinkType(field));
+            self.seen.format = format_of(bytes);
+            self.seen.link = link_type(bytes);
             self.progress.records = WholeRecords::of_capture(bytes);
         }
         self.progress.pass(bytes);
@@ -131,12 +128,12 @@ impl<R: Read> Read for Watched<R> {
 
 /// A capture that is read: a feed, which also says what was seen of its file besides the bytes.
 pub trait Inlet: Feed {
-    /// What was seen of its file besides its bytes, if it is watched.
-    fn seen(&self) -> Option<Seen>;
+    /// What was seen of its file besides its bytes.
+    fn seen(&self) -> Seen;
 }
 
 impl<R: Read> Inlet for OfBufReader<Watched<R>> {
-    fn seen(&self) -> Option<Seen> {
-        Some(self.get_ref().get_ref().seen())
+    fn seen(&self) -> Seen {
+        self.get_ref().get_ref().seen()
     }
 }

@@ -82,38 +82,28 @@ fn capture_named<'a>(word: &'a str, port: u8, name: &'a str) -> Replaced<'a>
     }
 }
 
-/// Parses a word PORT=NAME: the capture that it gives a port.
-pub fn replaced_in(word: &str) -> Option<Replaced<'_>>
-    ensures { option_map row_of result ≡ spec.replaced_in word.now }
-{
-    let (port, name) = word.split_once('=')?;
-    let port = port_digit(port)?;
-    if name.is_empty() {
-        return None;
-    }
-    Some(capture_named(word, port, name))
-}
-
-/// Parses a word PORT: the port that it gives no capture.
-pub fn nowhere_in(word: &str) -> Option<Replaced<'_>>
-    ensures { option_map row_of result ≡ spec.nowhere_in word.now }
-{
-    let port = port_digit(word)?;
-    Some(Replaced {
-        word,
-        port,
-        place: Place::Nowhere,
-        name: "",
-    })
-}
-
-/// The capture that a word of this form gives.
-fn given_by<'a>(form: WordForm, word: &'a str) -> Option<Replaced<'a>>
+/// The capture that a word of this form gives a port.
+pub fn given_by(form: WordForm, word: &str) -> Option<Replaced<'_>>
     ensures { option_map row_of result ≡ spec.given_by form word.now }
 {
     match form {
-        WordForm::Named => replaced_in(word),
-        WordForm::Bare => nowhere_in(word),
+        WordForm::Named => {
+            let (port, name) = word.split_once('=')?;
+            let port = port_digit(port)?;
+            if name.is_empty() {
+                return None;
+            }
+            Some(capture_named(word, port, name))
+        }
+        WordForm::Bare => {
+            let port = port_digit(word)?;
+            Some(Replaced {
+                word,
+                port,
+                place: Place::Nowhere,
+                name: "",
+            })
+        }
     }
 }
 
@@ -131,13 +121,6 @@ fn clashes(other: &Replaced<'_>, one: Replaced<'_>) -> bool
     other.port == one.port || (is_stream(other.place) && is_stream(one.place))
 }
 
-/// The first of these captures that cannot be given together with this one.
-fn first_clash<'b, 'a>(one: Replaced<'_>, earlier: &'b [Replaced<'a>]) -> Option<&'b Replaced<'a>>
-    ensures { option_map (λ other. other.now) result ≡ find (λ other. spec.clashes (row_of other) (row_of one.entry)) earlier.now }
-{
-    earlier.iter().find(|other| clashes(other, one))
-}
-
 /// The capture that a word gives besides earlier ones.
 fn added<'a>(
     direction: Direction,
@@ -150,10 +133,12 @@ fn added<'a>(
     let Some(one) = given_by(form, word) else {
         return Err(WordProblem::Unread(word, form));
     };
-    match first_clash(one, earlier) {
-        Some(other) => Err(WordProblem::Clash(direction, one, *other)),
-        None => Ok(one),
+    for other in earlier {
+        if clashes(other, one) {
+            return Err(WordProblem::Clash(direction, one, *other));
+        }
     }
+    Ok(one)
 }
 
 /// Adds the captures that words give.
@@ -169,7 +154,9 @@ fn add_words<'a>(
 {
     for word in words {
         let one = added(direction, form, word, given.as_slice())?;
-        given.push(one).map_err(|_| WordProblem::Memory)?;
+        if given.push(one).is_err() {
+            return Err(WordProblem::Memory);
+        }
     }
     Ok(())
 }
@@ -199,12 +186,13 @@ impl fmt::Display for WordProblem<'_> {
     fn fmt<W: fmt::Write>(&self, f: &mut fmt::Formatter<W>) -> fmt::Result {
         let (direction, one, other) = match *self {
             WordProblem::Memory => return f.write_str("fault: memory"),
-            WordProblem::Unread(word, WordForm::Named) => return write!(
-                f,
-                "error: '{word}' is not PORT=NAME: PORT a digit from 0 to 7, NAME a capture, or - for the standard stream"
-            ),
-            WordProblem::Unread(word, WordForm::Bare) => {
-                return write!(f, "error: '{word}' is not a port: a digit from 0 to 7");
+            WordProblem::Unread(word, form) => {
+                write!(f, "error: '{word}' is not ")?;
+                return f.write_str(match form {
+                    WordForm::Named =>
+                        "PORT=NAME: PORT a digit from 0 to 7, NAME a capture, or - for the standard stream",
+                    WordForm::Bare => "a port: a digit from 0 to 7",
+                });
             }
             WordProblem::Clash(direction, one, other) => (direction, one, other),
         };
@@ -223,29 +211,28 @@ impl fmt::Display for WordProblem<'_> {
     }
 }
 
-/// The capture that is given to a port.
-fn first_of_port<'b, 'a>(port: usize, given: &'b [Replaced<'a>]) -> Option<&'b Replaced<'a>>
-    ensures { option_map (λ one. one.now) result ≡ find (λ one. one.port == port) given.now }
-{
-    given.iter().find(|one| usize::from(one.port) == port)
-}
-
 /// The capture of a port: the one that is given, or else the file of this name.
 pub fn capture_at<'a>(given: &[Replaced<'a>], port: usize, name: &'a str) -> (Place, &'a str)
     ensures { (result.0, result.1.now) ≡ spec.capture_at given.now port name.now }
 {
-    match first_of_port(port, given) {
-        Some(one) => (one.place, one.name),
-        None => (Place::File, name),
+    for one in given {
+        if usize::from(one.port) == port {
+            return (one.place, one.name);
+        }
     }
+    (Place::File, name)
 }
 
 /// The first port of these captures that a pipeline with this number of ports does not have.
 fn missing_in(given: &[Replaced<'_>], ports: usize) -> Option<u8>
-    ensures { option_map (λ port. port) result ≡ option_map (λ one. one.port) (find (λ one. nat_le ports one.port) given.now) }
+    ensures { result ≡ spec.missing_in ports given.now }
 {
-    let one = given.iter().find(|one| ports <= usize::from(one.port))?;
-    Some(one.port)
+    for one in given {
+        if ports <= usize::from(one.port) {
+            return Some(one.port);
+        }
+    }
+    None
 }
 
 /// The captures that words give the ports of a pipeline: those that are read, and those that are written.
@@ -280,10 +267,10 @@ impl<'a> Replacements<'a> {
         ensures inputs { IfOk result (λ given. map row_of given.inputs.items ≡ spec.only input.now ∷ []) }
         ensures outputs { IfOk result (λ given. map row_of given.outputs.items ≡ spec.only output.now ∷ []) }
     {
-        Ok(Replacements {
-            inputs: vec![in alloc; capture_named(input, 0, input)]?,
-            outputs: vec![in alloc; capture_named(output, 0, output)]?,
-        })
+        let (mut inputs, mut outputs) = (Vec::new(alloc), Vec::new(alloc));
+        inputs.push(capture_named(input, 0, input))?;
+        outputs.push(capture_named(output, 0, output))?;
+        Ok(Replacements { inputs, outputs })
     }
 
     /// The first of these ports that a pipeline with this number of ports does not have.
@@ -298,6 +285,11 @@ impl<'a> Replacements<'a> {
     pub fn take_stdout(&self) -> bool
         ensures { result ≡ list_any (λ one. spec.is_stream one.place) self.now.outputs.items }
     {
-        self.outputs.iter().any(|one| is_stream(one.place))
+        for one in &self.outputs {
+            if is_stream(one.place) {
+                return true;
+            }
+        }
+        false
     }
 }

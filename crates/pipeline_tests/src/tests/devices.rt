@@ -1,7 +1,7 @@
 //! What is seen of a reader and kept of a writer, and a device that fails.
 
-use dp_captures::{Format, Guarded, LinkType, Progress, Watched};
-use std::io::{Error, Read, Result, Stderr, Write};
+use dp_captures::{Guarded, Progress, Watched};
+use std::io::{Error, Read, Result, Write};
 
 /// The errors of a disk that is full and of a device that cannot be read.
 pub const FULL: i32 = 28;
@@ -48,20 +48,20 @@ const COOKED: &[u8] = b"\xd4\xc3\xb2\xa1\x02\0\x04\0\0\0\0\0\0\0\0\0\0\0\x04\0\x
 
 const COOKED_BIG: &[u8] = b"\xa1\xb2\xc3\xd4\0\x02\0\x04\0\0\0\0\0\0\0\0\0\x04\0\0\0\0\0\x71";
 
-/// Front bytes of captures, with the other format that they begin, and the link type.
-static FRONTS: &[(&[u8], Option<Format>, Option<LinkType>)] = &[
-    (b"\x0a\x0d\x0d\x0a\x1c\0", Some(Format::Pcapng), None),
+/// Front bytes of captures, with the place of the other format that they begin, and the link type.
+static FRONTS: &[(&[u8], Option<usize>, Option<u32>)] = &[
+    (b"\x0a\x0d\x0d\x0a\x1c\0", Some(0), None),
     (b"\x0a\x0d\x0d", None, None),
-    (b"\x1f\x8b\x08", Some(Format::Gzip), None),
-    (b"BZh9", Some(Format::Bzip2), None),
-    (b"\xfd7zXZ\0\0", Some(Format::Xz), None),
+    (b"\x1f\x8b\x08", Some(1), None),
+    (b"BZh9", Some(2), None),
+    (b"\xfd7zXZ\0\0", Some(3), None),
     (b"\xfd7zXZ", None, None),
-    (b"\x28\xb5\x2f\xfd", Some(Format::Zstd), None),
-    (b"\x04\x22\x4d\x18", Some(Format::Lz4), None),
+    (b"\x28\xb5\x2f\xfd", Some(4), None),
+    (b"\x04\x22\x4d\x18", Some(5), None),
     (b"\xd4\xc3\xb2\xa1\x0a\x0d", None, None),
     (b"", None, None),
-    (COOKED, None, Some(LinkType(113))),
-    (COOKED_BIG, None, Some(LinkType(113))),
+    (COOKED, None, Some(113)),
+    (COOKED_BIG, None, Some(113)),
 ];
 
 /// What is written to a device that takes two bytes: how many it takes, if it does, and the error that is kept.
@@ -83,22 +83,17 @@ fn read_twice<R: Read + Drop>(reader: &mut R) {
 }
 
 // Whether that is seen of a capture with these bytes in front.
-fn is_seen(
-    to: Stderr,
-    front: &'static [u8],
-    format: Option<Format>,
-    link: Option<LinkType>,
-) -> bool {
-    let mut reader = Watched::new(front, Progress::new(to, 0, false), "in.pcap");
+fn is_seen(front: &'static [u8], format: Option<usize>, link: Option<u32>) -> bool {
+    let mut reader = Watched::new(front, Progress::new(None, 0), "in.pcap");
     read_twice(&mut reader);
     let seen = reader.seen();
     seen.format == format && seen.link == link && seen.failure.is_none()
 }
 
 // The first front, from 0, of which something else is seen.
-fn first_seen(to: Stderr) -> Option<usize> {
+fn first_seen() -> Option<usize> {
     for (k, (front, format, link)) in FRONTS.iter().enumerate() {
-        if !is_seen(to, front, *format, *link) {
+        if !is_seen(front, *format, *link) {
             return Some(k);
         }
     }
@@ -106,9 +101,9 @@ fn first_seen(to: Stderr) -> Option<usize> {
 }
 
 // The error that is seen of a device that fails after three bytes.
-fn failure_seen(to: Stderr) -> Option<i32> {
+fn failure_seen() -> Option<i32> {
     let disk = Disk { left: 3, taken: 0 };
-    let mut reader = Watched::new(disk, Progress::new(to, 0, false), "in.pcap");
+    let mut reader = Watched::new(disk, Progress::new(None, 0), "in.pcap");
     read_twice(&mut reader);
     code_of(reader.seen().failure)
 }
@@ -125,8 +120,8 @@ fn first_written(writer: &mut Guarded<Disk>) -> Option<usize> {
 
 #[test]
 fn readers(rt: HostRuntime) {
-    assert_eq!(&rt; first_seen(rt.stderr()), None);
-    assert_eq!(&rt; failure_seen(rt.stderr()), Some(UNREADABLE));
+    assert_eq!(&rt; first_seen(), None);
+    assert_eq!(&rt; failure_seen(), Some(UNREADABLE));
 }
 
 #[test]

@@ -149,7 +149,7 @@ pub fn loaded(alloc: Global, plan: &Plan) -> Result<Pipeline, Fail> {
 }
 
 fn input(alloc: Global, err: Stderr, plan: &Plan) -> Result<Input, Fail> {
-    let watched = Watched::new(plan.capture, Progress::new(err, 0, false), "in");
+    let watched = Watched::new(plan.capture, Progress::new(Some(err), 0), "in");
     let reader = BufReader::with_capacity(alloc, 64, watched)?;
     Ok(OfBufReader::new(reader))
 }

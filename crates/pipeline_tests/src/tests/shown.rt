@@ -1,7 +1,7 @@
 //! The texts of causes, of link types and of the numbers of a run.
 
 use Shown::{Cause, Cure, Link, Sums};
-use dp_captures::{CaptureReason, LinkType};
+use dp_captures::CaptureReason;
 use dp_counts::Totals;
 use dp_engine::{InputState, PortReport};
 use dp_load::{Part, PipeError, RouteError};
@@ -133,11 +133,8 @@ const MANY: PortReport = PortReport {
 fn text_of(alloc: Global, shown: &Shown) -> Result<String, AllocError> {
     match shown {
         Cause(error) => format!(in alloc; "{error}"),
-        Link(link) => format!(in alloc; "{}", CaptureReason::Link(LinkType(*link))),
-        Cure(link) => String::from_str(
-            alloc,
-            CaptureReason::Link(LinkType(*link)).cure().unwrap_or(""),
-        ),
+        Link(link) => format!(in alloc; "{}", CaptureReason::Link(*link)),
+        Cure(link) => String::from_str(alloc, CaptureReason::Link(*link).cure().unwrap_or("")),
         Sums(ports) => format!(in alloc; "{}", Totals(ports)),
     }
 }

@@ -1,9 +1,7 @@
 //! Words of the command line that give ports other captures.
 
 use WordForm::{Bare, Named};
-use dp_captures::{
-    Direction, Place, Replaced, WordForm, WordProblem, captures_of, nowhere_in, replaced_in,
-};
+use dp_captures::{Direction, Place, Replaced, WordForm, WordProblem, captures_of, given_by};
 use std::alloc::{AllocError, Global};
 
 /// Words of both forms, each with the port, the place and the name that it gives.
@@ -64,13 +62,6 @@ static GIVEN: &[(&[&str], &[&str], &str)] = &[
         "error: '2=-' gives port 2 another output than '2=a': one --out or --no-out for each port",
     ),
 ];
-
-fn given_by(form: WordForm, word: &str) -> Option<Replaced<'_>> {
-    match form {
-        Named => replaced_in(word),
-        Bare => nowhere_in(word),
-    }
-}
 
 // The first word, from 0, that gives something else.
 fn first_giving() -> Option<usize> {

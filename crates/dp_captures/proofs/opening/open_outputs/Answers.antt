@@ -2,6 +2,7 @@
 use Rattle.std.proofs.Common.{rules, ◌≡◌, ◌<◌, ◌∷◌, ◌++◌, [], length, length-append, arith}
 use Rattle.dp_captures.specs.Files.{IsOpenedOutput}
 use Rattle.dp_captures.specs.Names.{output_capture}
+use Rattle.dp_captures.specs.Opening.{IsOf}
 use Rattle.dp_captures.proofs.Opened.{captures_opened, output_named}
 use Rattle.dp_captures.proofs.opening.open_outputs.Goals as goal
 
@@ -12,10 +13,11 @@ loop-port-preserved g c =
     record {
       many = rw (items, length-append) (omega (arith, c.loop-port.invariant.many));
       opened = rw items (captures_opened IsOpenedOutput output_capture c.args.names.now c.loop-port.outputs.items c.loop-port.port-index c.port-item.result _
-          c.in-Ok.output within c.port-item.is c.loop-port.invariant.opened c.in-Ok.ensures.opened);
+          c.in-Ok.output within c.port-item.is c.loop-port.invariant.opened c.in-Ok.ensures);
     }
 
 pub returns-in-Err-clause-first : goal.returns-in-Err-clause-first
 returns-in-Err-clause-first g c =
     let within : c.loop-port.port-index < length c.args.names.now = omega (arith, c.loop-port-test.true) in
-    output_named c.args.names.now c.loop-port.port-index c.port-item.result _ c.in-Err.fault within c.port-item.is c.in-Err.ensures.named
+    let of : IsOf (output_capture c.port-item.result).1 c.unopened.result = search rules in
+    output_named c.args.names.now c.loop-port.port-index c.port-item.result _ c.unopened.result within c.port-item.is of
