@@ -2,202 +2,202 @@
 
 use super::cases::{Case, all_hold, must, none_differs};
 use super::writing::{Taker, buffered_list};
-use super::{Buffer, ROOM, copied, edited, hundred, next, three_records};
+use super::{Buffer, ROOM, body, copied, edited, hundred, next, three_records};
 use dp_pcap::{
-    Failed, FailingFeed, Feed, HeldRecord, Next, OfBufReader, OfBufWriter, OfRead, OfWrite,
-    PcapError, Source, Time, pass_record, read_header, record_at_hand,
+    FailingFeed, Feed, Next, OfBufReader, OfBufWriter, OfRead, OfWrite, PcapError, Source, Time,
+    pass_record, read_header, record_at_hand,
 };
 use std::alloc::Global;
 use std::io;
-use std::io::{BufReader, Read};
+use std::io::{BufReader, ErrorKind, Read};
 
-/// Counts the calls of a feed.
+/// A reader that gives at most `most` bytes in a call, then ends or fails, and counts the calls.
 #[derive(Drop)]
-struct Counting<F> {
-    inner: F,
+struct Sipped<'b> {
+    left: &'b [u8],
+    most: usize,
+    fails: Option<ErrorKind>,
     count: usize,
 }
 
-impl<F: Feed> Feed for Counting<F> {
-    ghost is_broken = { λ d. F.is_broken d.inner };
-
-    ghost calls = { λ d. F.calls d.inner };
-
-    ghost failures = { λ d. F.failures d.inner };
-
-    ghost remaining = { λ d. F.remaining d.inner };
-
-    ghost at_hand = { λ d. F.at_hand d.inner };
-
-    ghost truncated = { λ d. F.truncated d.inner };
-
-    fn held(&self) -> &[u8] {
-        self.inner.held()
-    }
-
-    fn pass(&mut self, n: usize) {
-        self.inner.pass(n);
-    }
-
-    fn note_truncated(&mut self) {
-        self.inner.note_truncated();
-    }
-
-    fn pull(&mut self, buf: &mut [u8]) -> Result<usize, Failed> {
-        self.count = self.count.wrapping_add(1);
-        self.inner.pull(buf)
+impl<'b> Sipped<'b> {
+    // A reader that gives all that it is asked for.
+    fn whole(left: &'b [u8]) -> Sipped<'b> {
+        Sipped {
+            left,
+            most: 1000,
+            fails: None,
+            count: 0,
+        }
     }
 }
 
-/// A feed over these bytes with a buffer of this room.
-fn buffered(alloc: Global, room: usize, bytes: &[u8]) -> Option<OfBufReader<&[u8]>> {
-    match BufReader::with_capacity(alloc, room, bytes) {
+impl Read for Sipped<'_> {
+    fn read(&mut self, buf: &mut [u8]) -> io::Result<usize> {
+        self.count = self.count.wrapping_add(1);
+        if let (Some(kind), true) = (self.fails, self.left.is_empty()) {
+            return Err(kind.into());
+        }
+        let room = buf.len().min(self.most);
+        match buf.get_mut(..room) {
+            Some(place) => self.left.read(place),
+            None => Ok(0),
+        }
+    }
+}
+
+/// What reading comes to: how many of the records of `THREE_RECORDS` come, how many of them are at hand, and what comes instead of the next.
+#[derive(Clone, Copy)]
+struct Walked {
+    count: usize,
+    at_hand: usize,
+    ends: Result<Next, PcapError>,
+}
+
+// Reads the next record, and returns whether it was at hand.
+fn take<R: Feed>(
+    r: &mut R,
+    source: &mut Source,
+    buf: &mut Buffer,
+) -> (bool, Result<Next, PcapError>) {
+    let Some(found) = record_at_hand(r, source) else {
+        return (false, next(r, source, buf));
+    };
+    let record = Next::Record(found.time, found.len);
+    let bytes = r.held().get(16..).unwrap_or(&[]);
+    let bytes = bytes.get(..found.len).unwrap_or(&[]);
+    if let Some(place) = buf.get_mut(..bytes.len()) {
+        place.copy_from_slice(bytes);
+    }
+    pass_record(r, source, found);
+    (true, Ok(record))
+}
+
+// Whether this is a record of `THREE_RECORDS` with these bytes.
+fn is_record(taken: Result<Next, PcapError>, bytes: &[u8], buf: &Buffer) -> bool {
+    let time = Time { sec: 0, nano: 0 };
+    taken == Ok(Next::Record(time, bytes.len())) && buf.as_slice().starts_with(bytes)
+}
+
+// Reads the records after the header. None if something comes after the end.
+fn walk_on<R: Feed>(r: &mut R, source: Source, buf: &mut Buffer) -> Option<Walked> {
+    let mut source = source;
+    let (mut count, mut at_hand) = (0usize, 0usize);
+    for len in [14usize, 0, 60, 61] {
+        let (held, ends) = take(r, &mut source, buf);
+        match body().get(..len) {
+            Some(bytes) if is_record(ends, bytes, buf) => {}
+            _ if next(r, &mut source, buf) == Ok(Next::End) => {
+                return Some(Walked {
+                    count,
+                    at_hand,
+                    ends,
+                });
+            }
+            _ => return None,
+        }
+        count = count.wrapping_add(1);
+        at_hand = at_hand.wrapping_add(usize::from(held));
+    }
+    None
+}
+
+fn walk<R: Feed>(r: &mut R) -> Option<Walked> {
+    match read_header(r) {
+        Ok(source) => walk_on(r, source, &mut [0u8; ROOM]),
+        Err(_) => None,
+    }
+}
+
+/// How much a device holds at the end, how many records were truncated, and how often its reader was called.
+type After = (usize, u64, usize);
+
+// Reads without a buffer.
+fn walk_plainly(inner: Sipped<'_>) -> (Option<Walked>, After) {
+    let mut r = OfRead::new(inner);
+    let walk = walk(&mut r);
+    let (held, truncated) = (r.held().len(), r.truncated());
+    (walk, (held, truncated, r.into_inner().count))
+}
+
+/// A feed over a reader with a buffer of this room.
+fn buffered<R: Read + Drop>(alloc: Global, room: usize, inner: R) -> Option<OfBufReader<R>> {
+    match BufReader::with_capacity(alloc, room, inner) {
         Ok(inner) => Some(OfBufReader::new(inner)),
         Err(_) => None,
     }
 }
 
-// Whether a record that is at hand is the one in `buf`, which comes next.
-fn is_next(held: &[u8], found: &HeldRecord, comes: Result<Next, PcapError>, buf: &Buffer) -> bool {
-    let bytes = held.get(16..).unwrap_or(&[]);
-    comes == Ok(Next::Record(found.time, found.len))
-        && bytes.get(..found.len) == buf.get(..found.len)
-}
-
-// Whether a record is at hand; none if it is not the one in `buf` that comes next, or if stepping over it is a call.
-fn step<F: Feed>(
-    r: &mut Counting<F>,
-    source: &mut Source,
-    comes: Result<Next, PcapError>,
-    buf: &mut Buffer,
-) -> Option<bool> {
-    let calls = r.count;
-    let Some(found) = record_at_hand(r, source) else {
-        let same = next(r, source, buf) == comes;
-        return if same { Some(false) } else { None };
-    };
-    if !is_next(r.held(), &found, comes, buf) {
-        return None;
-    }
-    pass_record(r, source, found);
-    if r.count == calls { Some(true) } else { None }
-}
-
-// How many of the records of a feed are at hand. None if one of them is not as in `plain`, a feed without a buffer.
-fn at_hand<F: Feed, P: Feed>(
-    r: &mut Counting<F>,
-    plain: &mut P,
-    buf: &mut Buffer,
-) -> Option<usize> {
-    let (Ok(mut other), Ok(mut source)) = (read_header(plain), read_header(r)) else {
-        return None;
-    };
-    let mut seen = 0usize;
-    for _ in 0..4 {
-        let comes = next(plain, &mut other, buf);
-        seen = seen.wrapping_add(usize::from(step(r, &mut source, comes, buf)?));
-    }
-    if r.held().is_empty() {
-        Some(seen)
-    } else {
-        None
+// Reads with a buffer of this room.
+fn walk_behind(alloc: Global, room: usize, inner: Sipped<'_>) -> (Option<Walked>, After) {
+    match &mut buffered(alloc, room, inner) {
+        Some(r) => {
+            let walk = walk(r);
+            let calls = r.get_ref().get_ref().count;
+            (walk, (r.held().len(), r.truncated(), calls))
+        }
+        None => (None, (0, 0, 0)),
     }
 }
 
-// The same beside a feed over `THREE_RECORDS`.
-fn at_hand_in<F: Feed>(r: &mut Counting<F>) -> Option<usize> {
-    at_hand(r, &mut OfRead::new(three_records()), &mut [0u8; ROOM])
-}
+/// Bytes of `THREE_RECORDS` that have other values, the room of a buffer, how many records come and how many are at hand in it, how many bytes it
+/// holds at the end, and what comes instead of the next record.
+struct AtHand(
+    &'static [(usize, u8)],
+    usize,
+    usize,
+    usize,
+    usize,
+    Result<Next, PcapError>,
+);
 
-/// The room of a feed's buffer, and how many records are at hand in it.
-struct AtHand(usize, usize);
+static AT_HAND: [AtHand; 8] = [
+    AtHand(&[], 0, 3, 0, 0, Ok(Next::End)),
+    AtHand(&[], 16, 3, 0, 0, Ok(Next::End)),
+    AtHand(&[], 54, 3, 1, 0, Ok(Next::End)),
+    AtHand(&[], 146, 3, 3, 0, Ok(Next::End)),
+    AtHand(&[], 200, 3, 3, 0, Ok(Next::End)),
+    // A part of a record is not at hand, and neither is one with a bad head.
+    AtHand(&[(31, 255)], 256, 0, 0, 106, Err(PcapError::BadTime)),
+    AtHand(&[(35, 1)], 256, 0, 0, 106, Err(PcapError::TooLong)),
+    AtHand(&[(32, 255)], 256, 0, 0, 0, Ok(Next::Cut(24))),
+];
 
 impl Case for AtHand {
     fn holds(&self, alloc: Global) -> bool {
-        match buffered(alloc, self.0, three_records()) {
-            Some(inner) => at_hand_in(&mut Counting { inner, count: 0 }) == Some(self.1),
+        let bytes = edited(three_records(), self.0);
+        let (walk, after) = walk_behind(alloc, self.1, Sipped::whole(&bytes));
+        match walk {
+            Some(walk) => {
+                walk.count == self.2
+                    && walk.at_hand == self.3
+                    && after.0 == self.4
+                    && walk.ends == self.5
+            }
             None => false,
         }
     }
 }
 
-static AT_HAND: [AtHand; 5] = [
-    AtHand(0, 0),
-    AtHand(16, 0),
-    AtHand(54, 1),
-    AtHand(146, 3),
-    AtHand(200, 3),
-];
-
-// A record at hand is the one that comes next, and stepping over it is no call.
+// A record at hand is the one that comes next.
 #[test]
 fn what_is_at_hand_comes_next(rt: HostRuntime) {
     all_hold(&rt, rt.alloc(), &AT_HAND);
 }
 
-// How many bytes are buffered after the header, if no record is at hand.
-fn without_a_record<R: Feed>(r: &mut R) -> Option<usize> {
-    match read_header(r) {
-        Ok(source) if record_at_hand(r, &source).is_none() => Some(r.held().len()),
-        _ => None,
-    }
+// What reading from a feed with a buffer comes to that fails after 30 bytes.
+fn walk_broken(alloc: Global) -> Option<Walked> {
+    walk(&mut FailingFeed::new(buffered(alloc, 256, three_records())?, 30))
 }
 
-// The same for a feed with a buffer that fails after some bytes.
-fn left_where_it_fails(alloc: Global, after: usize) -> Option<usize> {
-    let inner = buffered(alloc, 256, three_records())?;
-    without_a_record(&mut FailingFeed::new(inner, after))
-}
-
-/// The place of a byte of `THREE_RECORDS`, and another value.
-struct NotAtHand(usize, u8);
-
-impl Case for NotAtHand {
-    fn holds(&self, alloc: Global) -> bool {
-        let wrong = edited(three_records(), &[(self.0, self.1)]);
-        match &mut buffered(alloc, 256, wrong.as_slice()) {
-            Some(r) => without_a_record(r) == Some(122),
-            None => false,
-        }
-    }
-}
-
-static NOT_AT_HAND: [NotAtHand; 3] = [NotAtHand(31, 255), NotAtHand(35, 1), NotAtHand(32, 255)];
-
-// A part of a record is not at hand, and neither is one with a bad head.
+// A device that is broken has nothing at hand.
 #[test]
-fn nothing_else_is_at_hand(rt: HostRuntime) {
-    all_hold(&rt, rt.alloc(), &NOT_AT_HAND);
-}
-
-// How many bytes are buffered in a device that keeps nothing.
-fn left_in_plain() -> Option<usize> {
-    without_a_record(&mut OfRead::new(three_records()))
-}
-
-// A device that is broken or keeps nothing has nothing at hand.
-#[test]
-fn nothing_is_at_hand_without_a_buffer(rt: HostRuntime) {
-    must(&rt, left_in_plain() == Some(0), "the plain device");
-    let left = left_where_it_fails(rt.alloc(), 30);
-    must(&rt, left == Some(0), "the broken device");
-}
-
-// Reads every record, those that are at hand there; returns how many.
-fn read_all<R: Feed>(r: &mut R, buf: &mut Buffer) -> Result<usize, PcapError> {
-    let mut source = read_header(r)?;
-    let mut count = 0usize;
-    for _ in 0..5 {
-        match record_at_hand(r, &source) {
-            Some(found) => pass_record(r, &mut source, found),
-            None => match next(r, &mut source, buf)? {
-                Next::Record(_, _) => {}
-                _ => return Ok(count),
-            },
-        }
-        count = count.wrapping_add(1);
-    }
-    Ok(count)
+fn nothing_is_at_hand_in_a_broken_device(rt: HostRuntime) {
+    let is_broken = match walk_broken(rt.alloc()) {
+        Some(walk) => walk.at_hand == 0 && walk.ends == Err(PcapError::Read),
+        None => false,
+    };
+    must(&rt, is_broken, "nothing");
 }
 
 /// The bytes of `THREE_RECORDS` that have other values, how many bytes come, how many records are read, and how many of them are truncated.
@@ -220,53 +220,29 @@ static TRUNCATED: [Truncated; 12] = [
     Truncated(&[(36, 200), (82, 200)], 24, 0, 0),
 ];
 
-// Whether a feed without a buffer reads this number of records in these bytes, and this number of them are truncated.
-fn is_counted(bytes: &[u8], records: usize, truncated: u64, buf: &mut Buffer) -> bool {
-    let mut r = OfRead::new(bytes);
-    read_all(&mut r, buf) == Ok(records) && r.truncated() == truncated
-}
-
-// The same for a feed with a buffer.
-fn is_counted_behind(
-    r: &mut OfBufReader<&[u8]>,
-    records: usize,
-    truncated: u64,
-    buf: &mut Buffer,
-) -> bool {
-    read_all(r, buf) == Ok(records) && r.truncated() == truncated
-}
-
-// The same for feeds with buffers of any room.
-fn are_counted(
-    alloc: Global,
-    bytes: &[u8],
-    records: usize,
-    truncated: u64,
-    buf: &mut Buffer,
-) -> bool {
-    for room in [0usize, 16, 54, 146, 200, 256] {
-        let is_counted = match &mut buffered(alloc, room, bytes) {
-            Some(r) => is_counted_behind(r, records, truncated, buf),
-            None => false,
-        };
-        if !is_counted {
-            return false;
-        }
+// Whether this number of records was read, and this number of them truncated.
+fn is_counted(read: (Option<Walked>, After), records: usize, truncated: u64) -> bool {
+    match read.0 {
+        Some(walk) => walk.count == records && walk.ends.is_ok() && read.1.1 == truncated,
+        None => false,
     }
-    true
 }
 
 impl Case for Truncated {
+    // Whether they are without a buffer, and with one of any room.
     fn holds(&self, alloc: Global) -> bool {
-        let mut buf = [0u8; ROOM];
         let bytes = edited(three_records(), self.0);
-        match bytes.get(..self.1) {
-            Some(front) => {
-                is_counted(front, self.2, self.3, &mut buf)
-                    && are_counted(alloc, front, self.2, self.3, &mut buf)
+        let front = bytes.get(..self.1).unwrap_or(&[]);
+        for room in [0usize, 16, 54, 146, 200, 256] {
+            if !is_counted(
+                walk_behind(alloc, room, Sipped::whole(front)),
+                self.2,
+                self.3,
+            ) {
+                return false;
             }
-            None => false,
         }
+        is_counted(walk_plainly(Sipped::whole(front)), self.2, self.3)
     }
 }
 
@@ -276,140 +252,64 @@ fn truncated_records_are_counted(rt: HostRuntime) {
     all_hold(&rt, rt.alloc(), &TRUNCATED);
 }
 
-/// What each call returns, with the calls of the reader until then.
-static CALLS: [(Next, usize); 5] = [
-    (Next::Record(Time { sec: 0, nano: 0 }, 14), 3),
-    (Next::Record(Time { sec: 0, nano: 0 }, 0), 4),
-    (Next::Record(Time { sec: 0, nano: 0 }, 60), 6),
-    (Next::End, 7),
-    (Next::End, 7),
-];
+/// How many bytes of `THREE_RECORDS` come, how many of them at most in a call, where the record begins in which they end, if they end in one, and
+/// the calls of the reader until then. The last call of each row gives nothing.
+struct CutOff(usize, usize, Option<u64>, usize);
 
-// The first call that differs, from 1; 0 is that of the header.
-fn miscalls<F: Feed>(r: &mut Counting<F>) -> Option<usize> {
-    let mut buf = [0u8; ROOM];
-    let Ok(mut source) = read_header(r) else {
-        return Some(0);
-    };
-    if r.count != 1 {
-        return Some(0);
-    }
-    for (k, (wanted, calls)) in CALLS.iter().enumerate() {
-        if next(r, &mut source, &mut buf) != Ok(*wanted) || r.count != *calls {
-            return Some(k.wrapping_add(1));
-        }
-    }
-    None
-}
-
-// A reader that gives all that it is asked for is called once for the header, a record's head, and its bytes.
-#[test]
-fn a_call_a_piece(rt: HostRuntime) {
-    let inner = OfRead::new(three_records());
-    none_differs(&rt, 0, miscalls(&mut Counting { inner, count: 0 }));
-}
-
-/// A reader that gives at most `most` bytes in a call, then ends or fails, and counts the calls.
-#[derive(Drop)]
-struct Sipped {
-    left: &'static [u8],
-    most: usize,
-    fails: bool,
-    count: usize,
-}
-
-impl Read for Sipped {
-    fn read(&mut self, buf: &mut [u8]) -> io::Result<usize> {
-        self.count = self.count.wrapping_add(1);
-        if self.fails && self.left.is_empty() {
-            return Err(io::ErrorKind::BrokenPipe.into());
-        }
-        let room = buf.len().min(self.most);
-        match buf.get_mut(..room) {
-            Some(place) => self.left.read(place),
-            None => Ok(0),
-        }
-    }
-}
-
-/// How many bytes of `THREE_RECORDS` come, how many of them at most in a call, where the record begins in which they end, and the calls of the
-/// reader until then. The last call of each row gives nothing.
-struct CutOff(usize, usize, u64, usize);
-
-static CUTS: [CutOff; 14] = [
+static CUTS: [CutOff; 18] = [
     // One call for each byte that came, and one more, whatever length the record would have.
-    CutOff(25, 1, 24, 26),
-    CutOff(39, 1, 24, 40),
-    CutOff(40, 1, 24, 41),
-    CutOff(53, 1, 24, 54),
-    CutOff(55, 1, 54, 56),
-    CutOff(86, 1, 70, 87),
-    CutOff(145, 1, 70, 146),
+    CutOff(25, 1, Some(24), 26),
+    CutOff(39, 1, Some(24), 40),
+    CutOff(40, 1, Some(24), 41),
+    CutOff(53, 1, Some(24), 54),
+    CutOff(55, 1, Some(54), 56),
+    CutOff(86, 1, Some(70), 87),
+    CutOff(145, 1, Some(70), 146),
     // Seven bytes a call: four calls for the header, three for a head.
-    CutOff(30, 7, 24, 6),
-    CutOff(45, 7, 24, 9),
-    CutOff(100, 7, 70, 18),
+    CutOff(30, 7, Some(24), 6),
+    CutOff(45, 7, Some(24), 9),
+    CutOff(100, 7, Some(70), 18),
     // All that it is asked for: a call a piece, and one more in the piece that is cut.
-    CutOff(30, 1000, 24, 3),
-    CutOff(40, 1000, 24, 3),
-    CutOff(45, 1000, 24, 4),
-    CutOff(100, 1000, 70, 7),
+    CutOff(30, 1000, Some(24), 3),
+    CutOff(40, 1000, Some(24), 3),
+    CutOff(45, 1000, Some(24), 4),
+    CutOff(100, 1000, Some(70), 7),
+    // The header alone, and one, two and three records: a call for the header, a record's head, and its bytes.
+    CutOff(24, 1000, None, 2),
+    CutOff(54, 1000, None, 4),
+    CutOff(70, 1000, None, 5),
+    CutOff(146, 1000, None, 7),
 ];
-
-// Whether the records end like this, once, and then at the end.
-fn ends_with<R: Feed>(
-    r: &mut R,
-    source: &mut Source,
-    ends: Result<Next, PcapError>,
-    buf: &mut Buffer,
-) -> bool {
-    for _ in 0..3 {
-        match next(r, source, buf) {
-            Ok(Next::Record(_, _)) => {}
-            other => return other == ends && next(r, source, buf) == Ok(Next::End),
-        }
-    }
-    false
-}
-
-// The calls of a reader whose records end like this; none if they do not.
-fn calls_until(inner: Sipped, ends: Result<Next, PcapError>, buf: &mut Buffer) -> Option<usize> {
-    let mut r = OfRead::new(inner);
-    let Ok(mut source) = read_header(&mut r) else {
-        return None;
-    };
-    if ends_with(&mut r, &mut source, ends, buf) {
-        Some(r.into_inner().count)
-    } else {
-        None
-    }
-}
 
 impl CutOff {
-    // The calls of a reader that ends there, or fails.
-    fn calls(&self, fails: bool, ends: Result<Next, PcapError>) -> Option<usize> {
-        let mut buf = [0u8; ROOM];
-        let left = three_records().get(..self.0)?;
-        let inner = Sipped {
-            left,
-            most: self.1,
-            fails,
-            count: 0,
-        };
-        calls_until(inner, ends, &mut buf)
+    // Whether a reader that ends there, or fails, is called as often, and has nothing at hand.
+    fn is_called(&self, fails: Option<ErrorKind>, ends: Result<Next, PcapError>) -> bool {
+        let mut inner = Sipped::whole(three_records().get(..self.0).unwrap_or(&[]));
+        inner.most = self.1;
+        inner.fails = fails;
+        match walk_plainly(inner) {
+            (Some(walk), (held, _, calls)) => {
+                walk.ends == ends && walk.at_hand == 0 && held == 0 && calls == self.3
+            }
+            (None, _) => false,
+        }
     }
 }
 
 impl Case for CutOff {
     fn holds(&self, _alloc: Global) -> bool {
-        self.calls(false, Ok(Next::Cut(self.2))) == Some(self.3)
-            && self.calls(true, Err(PcapError::Read)) == Some(self.3)
+        let end = match self.2 {
+            Some(byte) => Next::Cut(byte),
+            None => Next::End,
+        };
+        self.is_called(None, Ok(end))
+            && self.is_called(Some(ErrorKind::BrokenPipe), Err(PcapError::Read))
     }
 }
 
-// A reader that ends or fails inside a record is called once for each byte that came, and once more; after that it is not called.
+// A reader that ends or fails is called once for each piece or byte that came, and once more; after that it is not called.
 #[test]
-fn a_cut_takes_a_call_a_byte_and_one_more(rt: HostRuntime) {
+fn an_end_takes_one_call_more(rt: HostRuntime) {
     all_hold(&rt, rt.alloc(), &CUTS);
 }
 
@@ -419,36 +319,15 @@ fn has_taken_pieces(taker: Taker) -> bool {
         && taker.offered.as_slice() == &[24usize, 16, 14, 16, 16, 60][..]
 }
 
-// Whether a copy makes seven calls of its feed, and a call a piece of its writer.
-fn copies_by_pieces<F: Feed>(r: &mut Counting<F>, taker: Taker) -> bool {
-    let mut w = OfWrite::new(taker);
-    let answer = copied(r, &mut w);
-    has_taken_pieces(w.into_inner()) && answer == Ok(None) && r.count == 7
-}
-
-// So it is for a copy, and a writer that takes all that it is offered is called once for each piece too.
+// A copy makes a call a piece, and one more of its reader.
 #[test]
 fn a_copy_makes_a_call_a_piece(rt: HostRuntime) {
-    let inner = OfRead::new(three_records());
-    let taker = Taker::new(rt.alloc(), &[], 1000);
-    let holds = copies_by_pieces(&mut Counting { inner, count: 0 }, taker);
+    let mut r = OfRead::new(Sipped::whole(three_records()));
+    let mut w = OfWrite::new(Taker::new(rt.alloc(), &[], 1000));
+    let answer = copied(&mut r, &mut w);
+    let has_taken = has_taken_pieces(w.into_inner());
+    let holds = has_taken && answer == Ok(None) && r.into_inner().count == 7;
     must(&rt, holds, "a call a piece");
-}
-
-/// A reader that fails its first call only, and counts all calls.
-#[derive(Drop)]
-struct FailsOnce {
-    count: usize,
-}
-
-impl Read for FailsOnce {
-    fn read(&mut self, _buf: &mut [u8]) -> io::Result<usize> {
-        self.count = self.count.wrapping_add(1);
-        if self.count == 1 {
-            return Err(io::ErrorKind::Interrupted.into());
-        }
-        Ok(0)
-    }
 }
 
 // Whether two headers in turn fail.
@@ -457,61 +336,58 @@ fn fails_twice<R: Feed>(r: &mut R) -> bool {
     first && read_header(r).err() == Some(PcapError::Read)
 }
 
-// Whether a reader of which two headers in turn fail is called once.
+// A reader that is interrupted.
+fn interrupted() -> Sipped<'static> {
+    let mut inner = Sipped::whole(&[]);
+    inner.fails = Some(ErrorKind::Interrupted);
+    inner
+}
+
+// Whether such a reader of which two headers in turn fail is called once.
 fn is_called_once() -> bool {
-    let mut r = OfRead::new(FailsOnce { count: 0 });
+    let mut r = OfRead::new(interrupted());
     fails_twice(&mut r) && r.into_inner().count == 1
 }
 
-// The calls of a reader with a buffer, of which two headers in turn fail.
-fn calls_with_a_buffer(alloc: Global) -> Option<usize> {
-    let Ok(inner) = BufReader::with_capacity(alloc, 64, FailsOnce { count: 0 }) else {
-        return None;
-    };
-    let mut r = OfBufReader::new(inner);
-    if fails_twice(&mut r) {
-        Some(r.get_ref().get_ref().count)
-    } else {
-        None
+// The same with a buffer.
+fn is_called_once_behind(alloc: Global) -> bool {
+    match &mut buffered(alloc, 64, interrupted()) {
+        Some(r) => fails_twice(r) && r.get_ref().get_ref().count == 1,
+        None => false,
     }
 }
 
 // An interrupted read breaks the device, and the reader is not called again, with a buffer in between or without.
 #[test]
 fn a_failed_reader_is_left_alone(rt: HostRuntime) {
-    must(&rt, is_called_once(), "one call");
-    let calls = calls_with_a_buffer(rt.alloc());
-    must(&rt, calls == Some(1), "one call with a buffer");
+    let is_once = is_called_once() && is_called_once_behind(rt.alloc());
+    must(&rt, is_once, "one call");
 }
 
-// Whether a copy of `HUNDRED` is the same, and leaves nothing in the reader.
-fn is_same(r: &mut OfBufReader<&[u8]>, w: &mut OfBufWriter<Vec<u8>>) -> bool {
-    copied(r, w) == Ok(None) && has_written(w) && is_read(r)
+// Whether `HUNDRED` is read whole and copied through buffers of this room.
+fn is_copied_to(alloc: Global, room: usize, w: &mut OfBufWriter<Vec<u8>>) -> bool {
+    match &mut buffered(alloc, room, hundred()) {
+        Some(r) => {
+            copied(r, w) == Ok(None)
+                && r.get_ref().buffer().is_empty()
+                && r.get_ref().get_ref().is_empty()
+        }
+        None => false,
+    }
 }
 
 fn has_written(w: &mut OfBufWriter<Vec<u8>>) -> bool {
     w.flush().is_ok() && w.get_ref().get_ref().as_slice() == hundred()
 }
 
-fn is_read(r: &OfBufReader<&[u8]>) -> bool {
-    r.get_ref().buffer().is_empty() && r.get_ref().get_ref().is_empty()
-}
-
-// The same through buffers of this room.
-fn is_same_in(alloc: Global, room: usize) -> bool {
-    match (
-        &mut buffered(alloc, room, hundred()),
-        &mut buffered_list(alloc, room),
-    ) {
-        (Some(r), Some(w)) => is_same(r, w),
-        _ => false,
-    }
-}
-
 // The first room of buffers that changes a copy.
 fn room_that_differs(alloc: Global) -> Option<usize> {
     for room in 0..102usize {
-        if !is_same_in(alloc, room) {
+        let is_same = match &mut buffered_list(alloc, room) {
+            Some(w) => is_copied_to(alloc, room, w) && has_written(w),
+            None => false,
+        };
+        if !is_same {
             return Some(room);
         }
     }
