@@ -19,7 +19,18 @@ pub(crate) fn all_hold<C: Case>(rt: &impl Abort, alloc: Global, cases: &[C]) {
 
 /// Asserts that no step of a script is the first that differs.
 pub(crate) fn none_differs(rt: &impl Abort, script: usize, first: Option<usize>) {
-    assert_eq!(rt; first, None, "script {script}");
+    let step = first.unwrap_or(0);
+    assert!(rt; first.is_none(), "script {script}, step {step}");
+}
+
+/// Whether all bytes are this one.
+pub(crate) fn are_all(bytes: &[u8], byte: u8) -> bool {
+    for one in bytes {
+        if *one != byte {
+            return false;
+        }
+    }
+    true
 }
 
 /// Asserts that something is so.

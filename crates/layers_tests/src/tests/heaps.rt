@@ -1,7 +1,7 @@
 //! Scripts of heap calls, and the elements after them, worked out by hand.
 ghost use Rattle.std.specs.Prelude.{◌≡◌, All};
 
-use super::cases::none_differs;
+use super::cases::{are_all, none_differs};
 use super::memory::{end_with, new_heap};
 use Row::{Empty, Full};
 use Step::{Alone, Are, Counts, Fill, Free, Holds, Malloc, Refused, Zeros};
@@ -155,7 +155,7 @@ fn zeros(heap: &mut Heap, size: u32) -> bool
     let Ok(block) = heap.zmalloc(size, 0) else {
         return false;
     };
-    let zeros = block.len() == size && block.bytes().iter().all(|byte| *byte == 0);
+    let zeros = block.len() == size && are_all(block.bytes(), 0);
     heap.free(block);
     zeros
 }
@@ -179,7 +179,7 @@ fn fill(bench: &mut Bench, k: usize, byte: u8) -> bool {
 
 fn holds(bench: &Bench, k: usize, byte: u8) -> bool {
     match bench.blocks.get(k) {
-        Some(block) => block.bytes().iter().all(|one| *one == byte),
+        Some(block) => are_all(block.bytes(), byte),
         None => false,
     }
 }

@@ -2,7 +2,7 @@
 ghost use Rattle.std.specs.Prelude.{◌≡◌, ◌<◌, length, replicate};
 ghost use Rattle.dp_pool.specs.Pools.{with_object};
 
-use super::cases::{must, none_differs};
+use super::cases::{are_all, must, none_differs};
 use super::memory::{end, is_whole, new_heap};
 use PoolError::{BadCache, BadCount, BadSize};
 use Step::{
@@ -238,10 +238,16 @@ fn put(pool: &mut Pool, index: u32) -> bool
     true
 }
 
+// Whether the indexes are of 64 objects or fewer, and no two of them are alike.
 fn are_distinct(indexes: &[u32], count: u32) -> bool {
-    indexes.iter().all(|i| {
-        *i < count && indexes.iter().filter(|other| *other == i).count() == 1
-    })
+    let mut bits = 0u64;
+    for index in indexes {
+        if *index >= count || *index >= 64 || bits & (1 << *index) != 0 {
+            return false;
+        }
+        bits |= 1 << *index;
+    }
+    true
 }
 
 // Gets indexes, and puts them back if that is asked for; returns whether they are got as wanted.
@@ -259,7 +265,7 @@ fn get_bulk(pool: &mut Pool, number: usize, got: bool, and_put: bool) -> bool
         }
         got && are_distinct(indexes, pool.count())
     } else {
-        !got && indexes.iter().all(|i| *i == 9) && (pool.cached(), pool.available()) == before
+        !got && &*indexes == &[9u32; 41][..number] && (pool.cached(), pool.available()) == before
     }
 }
 
@@ -308,7 +314,7 @@ fn fill_one(pool: &mut Pool, index: u32, byte: u8) -> bool
 fn is_full(pool: &Pool, index: u32, byte: u8) -> bool {
     index < pool.count()
         && pool.object(index).len() == pool.size() as usize
-        && pool.object(index).iter().all(|one| *one == byte)
+        && are_all(pool.object(index), byte)
 }
 
 fn has_part(pool: &Pool, index: u32, at: u32, part: &[u8]) -> bool {

@@ -1,6 +1,6 @@
 //! What captures are read as, call by call.
 
-use super::cases::{Case, all_hold, must};
+use super::cases::{Case, all_hold, are_all, must};
 use super::{Buffer, MICRO_HEADER, NANO_HEADER, ROOM, body, edited, hundred, is_copied, next};
 use Answer::{Cut, End, OfHundred, Record, Refused};
 use PcapError::{BadLink, BadMagic, BadTime, BadVersion, ShortHeader, TooLong, TooMany};
@@ -207,7 +207,7 @@ fn is_longest<R: Feed>(r: &mut R) -> bool {
     };
     let time = Time { sec: 0, nano: 0 };
     next(r, &mut source, &mut buf) == Ok(Next::Record(time, 262_144))
-        && buf.iter().all(|&byte| byte == 7)
+        && are_all(buf.as_slice(), 7)
         && next(r, &mut source, &mut buf) == Ok(Next::End)
 }
 
