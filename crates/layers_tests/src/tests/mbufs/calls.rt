@@ -5,6 +5,7 @@ ghost use Rattle.dp_model.specs.Packets.{Segment, IsHeadSole, IsTailSole, refs};
 ghost use Rattle.dp_model.specs.Stores.{HasSome, IsLive, Of, segments_of};
 ghost use Rattle.layers_tests.specs.Rows.{IsOver, StaysOver};
 
+use super::cases::must;
 use dp_mbuf::Mbufs;
 use dp_model::{Packet, Width};
 use std::process::Abort;
@@ -13,8 +14,7 @@ use std::process::Abort;
 pub(crate) fn alive(rt: &impl Abort, m: &Mbufs, p: &Packet)
     ensures { IsLive m.now.store p.now }
 {
-    let live = m.is_live(p);
-    assert!(rt; live, "the packet is not live");
+    must(rt, m.is_live(p), "the packet is live");
 }
 
 pub(crate) fn receive(rt: &impl Abort, m: &mut Mbufs, pool: u32, bytes: &[u8]) -> Option<Packet>
@@ -22,9 +22,8 @@ pub(crate) fn receive(rt: &impl Abort, m: &mut Mbufs, pool: u32, bytes: &[u8]) -
     requires pool { pool < 2 }
     ensures { StaysOver m.old m.new }
 {
-    assert!(rt; bytes.len() < 262_145);
-    let need = m.needed(pool, bytes.len());
-    assert!(rt; need <= 64);
+    must(rt, bytes.len() < 262_145, "a record's length");
+    must(rt, m.needed(pool, bytes.len()) <= 64, "64 segments");
     m.receive(pool, bytes)
 }
 
@@ -76,7 +75,7 @@ fn sole_head(rt: &impl Abort, m: &Mbufs, p: &Packet)
     ensures { HasSome m.now.store p.now (λ k. IsHeadSole (segments_of m.now.store) k) }
 {
     let sharers = refs(rt, m, p, 0);
-    assert!(rt; sharers == 1);
+    must(rt, sharers == 1, "one reference");
 }
 
 // Asserts that nothing shares the buffer of the last segment.
@@ -86,7 +85,7 @@ fn sole_tail(rt: &impl Abort, m: &Mbufs, p: &Packet)
     let count = segments(rt, m, p);
     assert!(rt; 1 <= count);
     let sharers = refs(rt, m, p, count - 1);
-    assert!(rt; sharers == 1);
+    must(rt, sharers == 1, "one reference");
 }
 
 /// An end of a packet.
@@ -100,7 +99,7 @@ pub(crate) enum End {
 fn fits(rt: &impl Abort, n: u16, most: u16)
     ensures { n ≤ most }
 {
-    assert!(rt; n <= most);
+    must(rt, n <= most, "there are as many bytes");
 }
 
 /// Cuts bytes off the packet.
@@ -146,22 +145,19 @@ pub(crate) fn store(rt: &impl Abort, m: &mut Mbufs, p: &Packet, offset: u64, byt
     ensures { StaysOver m.old m.new }
 {
     sole_head(rt, m, p);
-    let len = m.first_len(p);
-    assert!(rt; offset < u64::from(len));
+    must(rt, offset < u64::from(m.first_len(p)), "a byte");
     m.store(p, offset, Width::One, u64::from(byte));
 }
 
 pub(crate) fn load_one(rt: &impl Abort, m: &Mbufs, p: &Packet, offset: u64) -> u64 {
     alive(rt, m, p);
-    let len = m.first_len(p);
-    assert!(rt; offset < u64::from(len));
+    must(rt, offset < u64::from(m.first_len(p)), "a byte");
     m.load(p, offset, Width::One)
 }
 
 pub(crate) fn load_four(rt: &impl Abort, m: &Mbufs, p: &Packet) -> u64 {
     alive(rt, m, p);
-    let len = m.first_len(p);
-    assert!(rt; 4 <= len);
+    must(rt, 4 <= m.first_len(p), "four bytes");
     m.load(p, 0, Width::Four)
 }
 
@@ -170,8 +166,7 @@ pub(crate) fn refs(rt: &impl Abort, m: &Mbufs, p: &Packet, k: u32) -> u32
     ensures refs { Of m.now.store p.now (λ packet. (s : Segment) → slice_get packet k ≡ Some s → result ≡ refs (segments_of m.now.store) s.buffer) }
 {
     alive(rt, m, p);
-    let segments = m.segments(p);
-    assert!(rt; k < segments);
+    must(rt, k < m.segments(p), "a segment");
     m.refs(p, k)
 }
 
@@ -181,12 +176,10 @@ pub(crate) fn chain(rt: &impl Abort, m: &mut Mbufs, head: &Packet, tail: Packet)
 {
     alive(rt, m, head);
     alive(rt, m, &tail);
-    let same = head.number() == tail.number();
-    assert!(rt; !same);
+    must(rt, head.number() != tail.number(), "two packets");
     let front = m.segments(head);
-    let beyond = m.segments(&tail);
-    assert!(rt; front <= 64);
-    assert!(rt; beyond <= 64 - front);
+    must(rt, front <= 64, "64 segments");
+    must(rt, m.segments(&tail) <= 64 - front, "64 segments in all");
     m.chain(head, tail);
 }
 
@@ -213,8 +206,7 @@ pub(crate) fn spells(rt: &impl Abort, m: &Mbufs, p: &Packet, want: &[u8]) -> boo
     let mut rest = want;
     for k in 0..segments(rt, m, p) {
         alive(rt, m, p);
-        let count = m.segments(p);
-        assert!(rt; k < count);
+        must(rt, k < m.segments(p), "a segment");
         let part = m.segment_bytes(p, k);
         if part.len() > rest.len() || part != &rest[..part.len()] {
             return false;

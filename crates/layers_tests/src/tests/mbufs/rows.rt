@@ -7,7 +7,7 @@ use super::calls::{
     End, alive, alloc, chain, copy, extend, free, free_count, free_sole, is_sole, load_four,
     receive, refs, rooms, segments, spells,
 };
-use super::cases::none_differs;
+use super::cases::{must, none_differs};
 use super::setup::{Sizes, close, open, sized};
 use Step::{
     Alloc, Append, Chain, Copy, Free, FreeCount, FreeSole, IsSole, LoadFour, Park, Prepend,
@@ -225,7 +225,7 @@ static NEW_PACKETS: [(u16, u16); 8] = [
 
 // The packet with a number.
 fn at(rt: &impl Abort, packets: &[Packet], k: usize) -> Packet {
-    assert!(rt; k < packets.len());
+    must(rt, k < packets.len(), "a packet");
     packets[k]
 }
 
@@ -357,8 +357,10 @@ fn few(rt: &impl Abort, pool: &(u32, u32), least: u32) -> Sizes
     ensures count { (1 ≤ result.count) × (result.count ≤ 100) }
     ensures room { (least ≤ result.room) × (result.room ≤ MAX_ROOM) }
 {
-    assert!(rt; 1 <= pool.0 && pool.0 <= 100);
-    assert!(rt; least <= pool.1 && pool.1 <= MAX_ROOM);
+    must(rt, 1 <= pool.0, "an object");
+    must(rt, pool.0 <= 100, "100 objects");
+    must(rt, least <= pool.1, "the least room");
+    must(rt, pool.1 <= MAX_ROOM, "the most room");
     sized(pool.0, pool.1, 0)
 }
 

@@ -4,6 +4,7 @@ ghost use Rattle.std.specs.Prelude.{◌≡◌, ◌+◌, ◌*◌, ◌<◌, ◌≤
 ghost use Rattle.std.specs.List.{AllByRecursion};
 ghost use Rattle.layers_tests.specs.Rows.{IsOver, AreIn, SlotIn, IsReadyPool};
 
+use super::cases::must;
 use super::memory::{end, new_heap};
 use dp_heap::Heap;
 use dp_mbuf::{HEADER_SIZE, HEADROOM, MAX_MBUFS, MAX_ROOM, Mbufs};
@@ -120,8 +121,7 @@ pub(crate) fn close(rt: &impl Abort, setup: Setup)
 {
     let Setup { heap, zones, mbufs } = setup;
     let (mut heap, mut zones) = (heap, zones);
-    let empty = mbufs.is_empty();
-    assert!(rt; empty, "a packet is left");
+    must(rt, mbufs.is_empty(), "no packet is left");
     unmake_all(mbufs.into_pools(), &mut heap, &mut zones);
     end(rt, heap);
 }

@@ -174,7 +174,7 @@ fn walk_cut(rt: &impl Abort, m: &mut Mbufs, shadow: &mut Shadow, seed: &mut u64,
     cut(rt, m, &packet, end, n);
     for _ in 0..n {
         let count = shadow.bytes.len();
-        assert!(rt; count > 0);
+        must(rt, count > 0, "a byte to cut off");
         shadow.bytes.remove(match end {
             End::Front => 0,
             End::Back => count - 1,
