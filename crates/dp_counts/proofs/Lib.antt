@@ -1,4 +1,5 @@
 pub mod Tallies
 pub mod Flows
+pub mod Lines
 pub mod Runs
 pub mod Turns

@@ -3,8 +3,8 @@ use Rattle.std.specs.Prelude.{ℕ, ◌-◌, ◌^◌, false, List, [], ◌∷◌,
 use Rattle.std.specs.Option.{option_map_or}
 use Rattle.std.specs.List.{flat_map}
 use Rattle.std.specs.Fmt.{decimal, padded_integral, format_spec}
+use Rattle.dp_load.specs.Causes.{node_text as node_name}
 use Rattle.dp_model.specs.declared.env.Entry.{Entry}
-use Rattle.dp_model.specs.declared.env.Entry.TheVariants.{Port, Ring}
 use Rattle.dp_counts.specs.declared.counts.StepCounts.{StepCounts}
 use Rattle.dp_counts.specs.declared.source.Role.{Role}
 use Rattle.dp_counts.specs.declared.source.Role.TheVariants.{Plain, Frees, Ends}
@@ -56,8 +56,7 @@ columns = 10 ∷ codes "       ran     taken" ++ 10 ∷ []
 
 -- the node, its file, and the names of the columns
 abbrev pub heading : Entry → List ℕ → List ℕ
-heading (Port port) name = codes "port " ++ (decimal port ++ (codes " " ++ (name ++ columns)))
-heading (Ring ring) name = codes "ring " ++ (decimal ring ++ (codes " " ++ (name ++ columns)))
+heading node name = node_name node ++ (codes " " ++ (name ++ columns))
 
 abbrev pub node_text : Tally → NodeSource → List ℕ
 node_text t s = heading s.node s.name.now ++ lines_text t s.node s.lines.items

@@ -16,8 +16,8 @@ state_text Open = codes "open"
 
 -- the line of a port, a ring or a pool, by its number
 abbrev pub port_line : ℕ → PortReport → List ℕ
-port_line k p = (codes "port " ++ (decimal k ++ (codes " received " ++ (decimal p.received ++ (codes " nobuf " ++ decimal p.nobuf)))))
-    ++ (codes " oversize " ++ (decimal p.oversize ++ (codes " sent " ++ (decimal p.sent ++ (codes " input " ++ (state_text p.state ++ 10 ∷ []))))))
+port_line k p = ((codes "port " ++ (decimal k ++ (codes " received " ++ (decimal p.received ++ (codes " nobuf " ++ decimal p.nobuf)))))
+    ++ (codes " oversize " ++ (decimal p.oversize ++ (codes " sent " ++ (decimal p.sent ++ codes " input "))))) ++ (state_text p.state ++ 10 ∷ [])
 
 abbrev pub ring_line : ℕ → ℕ → List ℕ
 ring_line k left = codes "ring " ++ (decimal k ++ (codes " left " ++ (decimal left ++ 10 ∷ [])))

@@ -1,5 +1,6 @@
 //! The counts of a program by the lines of its source, the places where packets end without being sent, and the counts that have names.
 
+use crate::counting::Counting;
 use crate::counts::{Counts, StepCounts};
 use crate::source::{NodeSource, words_of};
 use dp_engine::Report;
@@ -20,24 +21,15 @@ pub struct Origin<'a> {
     pub is_built: bool,
 }
 
-/// Why packets ended without being sent.
-#[derive(Clone, Copy)]
-pub enum DropCause<'a> {
-    /// Their records are longer than the port takes.
-    Oversize,
-    /// There were too few free buffers for their records.
-    NoBuffers,
-    /// They were left in the ring at the end of the run.
-    Left,
-    /// A `free` freed them, to which control came from this line.
-    Freed(Origin<'a>),
-}
-
 /// A place where packets ended without being sent.
 #[derive(Clone, Copy)]
 pub struct DropPlace<'a> {
     pub node: Entry,
-    pub cause: DropCause<'a>,
+    /// Why: `oversize` and `nobuf` for records that are longer than the port takes, or found too few free buffers; `left` for packets in the ring at the
+    /// end of the run; and `freed` for those that a `free` freed.
+    pub why: &'a str,
+    /// The line from which control came to the `free`.
+    pub origin: Option<Origin<'a>>,
     /// How many.
     pub packets: u64,
 }
@@ -75,87 +67,31 @@ fn frees_from(instrs: &[Instr], label: usize) -> u64 {
     frees
 }
 
-/// How often control came to a label other than by a jump.
-fn came_on(counts: &Counts, source: &NodeSource<'_>, label: usize) -> u64 {
-    let mut came = counts.step(source.node, label).ran;
-    for (from, instr) in source.instrs.as_slice().iter().enumerate() {
-        if arguments_of(instr).label().map(usize::from) == Some(label) {
-            came = came.wrapping_sub(counts.step(source.node, from).taken);
-        }
-    }
-    came
+/// The label that an instruction may jump to.
+fn target_of(instr: &Instr) -> Option<usize> {
+    arguments_of(instr).label().map(usize::from)
 }
 
 /// How many packets were freed since control went on from the instruction at a label to a `free`: by its jump, or, at the first of several `free`s,
 /// because control came there without one.
 fn dropped_at(counts: &Counts, source: &NodeSource<'_>, label: usize, instr: &Instr) -> u64 {
-    let instrs = source.instrs.as_slice();
-    let by_jump = match arguments_of(instr).label() {
-        Some(to) => {
-            let StepCounts { taken, .. } = counts.step(source.node, label);
-            taken.wrapping_mul(frees_from(instrs, usize::from(to)))
-        }
-        None => 0,
-    };
+    let (node, instrs) = (source.node, source.instrs.as_slice());
+    let StepCounts { ran, taken, .. } = counts.step(node, label);
+    let mut dropped = 0u64;
+    if let Some(to) = target_of(instr) {
+        dropped = taken.wrapping_mul(frees_from(instrs, to));
+    }
     let frees = frees_from(instrs, label);
     if frees == 0 || (label > 0 && frees_from(instrs, label - 1) > 0) {
-        return by_jump;
+        return dropped;
     }
-    by_jump.wrapping_add(came_on(counts, source, label).wrapping_mul(frees))
-}
-
-/// Adds a place, if packets ended there.
-fn push_place<'a>(
-    all: &mut Vec<DropPlace<'a>>,
-    node: Entry,
-    cause: DropCause<'a>,
-    packets: u64,
-) -> Result<(), AllocError> {
-    if packets > 0 {
-        all.push(DropPlace {
-            node,
-            cause,
-            packets,
-        })?;
-    }
-    Ok(())
-}
-
-/// Adds the places of a report.
-fn push_reported(places: &mut Vec<DropPlace<'_>>, report: &Report) -> Result<(), AllocError> {
-    for (k, port) in report.ports.as_slice().iter().enumerate() {
-        let node = Entry::Port(k as u8);
-        push_place(places, node, DropCause::Oversize, port.oversize)?;
-        push_place(places, node, DropCause::NoBuffers, port.nobuf)?;
-    }
-    for (k, left) in report.rings.as_slice().iter().enumerate() {
-        push_place(places, Entry::Ring(k as u8), DropCause::Left, *left)?;
-    }
-    Ok(())
-}
-
-/// The places of a run of these programs where packets ended without being sent, the one with most packets first. Together they are all records that were
-/// dropped, all packets that a `free` freed, and all that were left in rings.
-///
-/// # Errors
-///
-/// `AllocError` if memory is refused.
-pub fn drop_places<'a>(
-    alloc: Global,
-    counts: &Counts,
-    sources: &[NodeSource<'a>],
-    report: &Report,
-) -> Result<Vec<DropPlace<'a>>, AllocError> {
-    let mut places = Vec::new(alloc);
-    push_reported(&mut places, report)?;
-    for source in sources {
-        for line in lines_counted(alloc, counts, source)?.as_slice() {
-            let cause = DropCause::Freed(line.origin);
-            push_place(&mut places, source.node, cause, line.dropped)?;
+    let mut came = ran;
+    for (from, instr) in instrs.iter().enumerate() {
+        if target_of(instr) == Some(label) {
+            came = came.wrapping_sub(counts.step(node, from).taken);
         }
     }
-    places.sort_by_key(|place| u64::MAX - place.packets)?;
-    Ok(places)
+    dropped.wrapping_add(came.wrapping_mul(frees))
 }
 
 /// The name of the counter that a comment begins with, and what follows: `dns` and `4: count dns` of `count dns: 4: count dns`.
@@ -167,53 +103,44 @@ fn counter_in(comment: &str) -> Option<(&str, &str)> {
     Some((name, rest.trim_start()))
 }
 
-/// What a comment of `dpv build` says of the line that an instruction was built from, its file, its number and its text: `4: send port`, or
-/// `net.pkt:4: send port` for a line of a file that the one with this name includes.
-fn built_from<'a>(comment: &'a str, name: &'a str) -> Option<(&'a str, usize, &'a str)> {
+/// The line that an instruction was built from, as a comment of `dpv build` says it: `4: send port`, or `net.pkt:4: send port` for a line of a file that
+/// the one with this name includes.
+fn built_line<'a>(comment: &'a str, name: &'a str) -> Option<Origin<'a>> {
     let (_counter, line) = counter_in(comment).unwrap_or(("", comment));
     let (place, text) = line.split_once(": ")?;
     let (file, digits) = place.rsplit_once(':').unwrap_or((name, place));
-    Some((file, digits.parse::<usize>().ok()?, text))
+    let line = Some(digits.parse::<usize>().ok()?);
+    Some(Origin {
+        file,
+        line,
+        text,
+        is_built: true,
+    })
 }
 
-/// The name of the file that a program was built from, if `dpv build` wrote it.
-fn built_name<'a>(source: &NodeSource<'a>) -> Option<&'a str> {
-    let first = source.lines.as_slice().first()?;
-    let header = words_of(first.text).comment()?;
-    let (name, _rest) = header
-        .strip_prefix("Built from ")?
-        .split_once(" by `dpv build`")?;
-    Some(name)
-}
-
-/// The name of the file with the source of a program: if `dpv build` wrote it, of what it was built from.
-pub fn source_name<'a>(source: &NodeSource<'a>) -> &'a str {
-    built_name(source).unwrap_or(source.name)
-}
-
-/// The line that the instruction in the line with this number is counted for; `before` is that of the instruction before it, which an instruction of a
-/// built program without a line belongs to.
+/// The line with this number that an instruction in it is counted for; `before` is that of the instruction before it, which an instruction of a built
+/// program without a line belongs to.
 fn origin_of<'a>(
     source: &NodeSource<'a>,
     (number, text): (usize, &'a [u8]),
     before: Option<Origin<'a>>,
 ) -> Origin<'a> {
     let words = words_of(text);
-    let comment = words.comment().unwrap_or(words.code());
-    let (file, line, text, is_built) = match built_name(source) {
-        None => (source.name, Some(number), words.text, false),
-        Some(name) => match (built_from(comment, name), before) {
-            (Some((file, line, text)), _) => (file, Some(line), text, true),
-            (None, Some(before)) => return before,
-            (None, None) => (name, None, comment, true),
-        },
+    let mut own = Origin {
+        file: source.file(),
+        line: Some(number),
+        text: words.text,
+        is_built: source.built.is_some(),
     };
-    Origin {
-        file,
-        line,
-        text,
-        is_built,
+    if own.is_built {
+        own.text = words.comment().unwrap_or(words.code());
+        own.line = None;
+        return match built_line(own.text, own.file) {
+            Some(line) => line,
+            None => before.unwrap_or(own),
+        };
     }
+    own
 }
 
 /// Adds the counts of an instruction to those of its line.
@@ -226,88 +153,143 @@ fn add_counts<'a>(lines: &mut Vec<LineCounts<'a>>, more: LineCounts<'a>) -> Resu
             return Ok(());
         }
     }
-    lines.push(more)?;
-    Ok(())
+    Ok(lines.push(more)?)
 }
 
 /// Adds a count to the one with its name.
-fn add_named<'a>(all: &mut Vec<NamedCount<'a>>, more: NamedCount<'a>) -> Result<(), AllocError> {
+fn add_named<'a>(
+    all: &mut Vec<NamedCount<'a>>,
+    node: Entry,
+    name: &'a str,
+    packets: u64,
+) -> Result<(), AllocError> {
     for own in all.as_mut_slice() {
-        if own.node == more.node && own.name == more.name {
-            own.packets = own.packets.wrapping_add(more.packets);
+        if own.node == node && own.name == name {
+            own.packets = own.packets.wrapping_add(packets);
             return Ok(());
         }
     }
-    Ok(all.push(more)?)
+    Ok(all.push(NamedCount {
+        node,
+        name,
+        packets,
+    })?)
 }
 
-/// The counts of a program by the lines of its source, in their order; those of included files come last. Control came to a line as often as to the
-/// instructions in it that do not follow one of the same line.
-///
-/// # Errors
-///
-/// `AllocError` if memory is refused.
-pub fn lines_counted<'a>(
-    alloc: Global,
-    counts: &Counts,
-    source: &NodeSource<'a>,
-) -> Result<Vec<LineCounts<'a>>, AllocError> {
-    let mut lines = Vec::new(alloc);
-    let mut before = None;
-    for (k, line) in source.lines.as_slice().iter().enumerate() {
-        if let Some(step) = line.step
-            && let Some(instr) = source.instrs.as_slice().get(step.label)
-        {
-            let origin = origin_of(source, (k.saturating_add(1), line.text), before);
-            let StepCounts { ran, taken, cut } = counts.step(source.node, step.label);
-            let passed = ran.wrapping_sub(taken).wrapping_sub(cut);
-            let is_sent = matches!(*instr, Instr::Tx { .. } | Instr::Enq { .. });
-            let more = LineCounts {
-                origin,
-                came: if Some(origin) == before { 0 } else { ran },
-                sent: if is_sent { passed } else { 0 },
-                dropped: dropped_at(counts, source, step.label, instr),
-            };
-            add_counts(&mut lines, more)?;
-            before = Some(origin);
-        }
+impl<'a> NodeSource<'a> {
+    /// The name of the file with the source: if `dpv build` wrote the program, of what it was built from.
+    pub fn file(&self) -> &'a str {
+        self.built.unwrap_or(self.name)
     }
-    let name = source_name(source);
-    lines.sort_by_key(|line| (
-        line.origin.file != name,
-        line.origin.line.unwrap_or(usize::MAX),
-    ))?;
-    Ok(lines)
-}
 
-/// The counts that have names, in the order of the programs and of the first instruction with each name. A name that stands several times in a program is
-/// one count.
-///
-/// # Errors
-///
-/// `AllocError` if memory is refused.
-pub fn named_counts<'a>(
-    alloc: Global,
-    counts: &Counts,
-    sources: &[NodeSource<'a>],
-) -> Result<Vec<NamedCount<'a>>, AllocError> {
-    let mut all = Vec::new(alloc);
-    for source in sources {
-        let node = source.node;
-        for line in source.lines.as_slice() {
+    /// The counts by the lines of the source, in their order; those of included files come last. Control came to a line as often as to the instructions
+    /// in it that do not follow one of the same line.
+    ///
+    /// # Errors
+    ///
+    /// `AllocError` if memory is refused.
+    pub fn lines_counted(
+        &self,
+        alloc: Global,
+        counts: &Counts,
+    ) -> Result<Vec<LineCounts<'a>>, AllocError> {
+        let (mut lines, mut before) = (Vec::new(alloc), None);
+        for (k, line) in self.lines.as_slice().iter().enumerate() {
             if let Some(step) = line.step
-                && let Some(comment) = words_of(line.text).comment()
-                && let Some((name, _rest)) = counter_in(comment)
+                && let Some(instr) = self.instrs.as_slice().get(step.label)
             {
-                let packets = counts.step(node, step.label).ran;
-                let more = NamedCount {
-                    node,
-                    name,
-                    packets,
+                let origin = origin_of(self, (k.saturating_add(1), line.text), before);
+                let StepCounts { ran, taken, cut } = counts.step(self.node, step.label);
+                let is_sent = matches!(*instr, Instr::Tx { .. } | Instr::Enq { .. });
+                let passed = ran.wrapping_sub(taken).wrapping_sub(cut);
+                let more = LineCounts {
+                    origin,
+                    came: if Some(origin) == before { 0 } else { ran },
+                    sent: if is_sent { passed } else { 0 },
+                    dropped: dropped_at(counts, self, step.label, instr),
                 };
-                add_named(&mut all, more)?;
+                add_counts(&mut lines, more)?;
+                before = Some(origin);
             }
         }
+        let file = self.file();
+        lines.sort_by_key(|line| (
+            line.origin.file != file,
+            line.origin.line.unwrap_or(usize::MAX),
+        ))?;
+        Ok(lines)
+    }
+}
+
+/// Adds a place, if packets ended there.
+fn push_place<'a>(
+    all: &mut Vec<DropPlace<'a>>,
+    node: Entry,
+    (why, origin): (&'a str, Option<Origin<'a>>),
+    packets: u64,
+) -> Result<(), AllocError> {
+    if packets > 0 {
+        all.push(DropPlace {
+            node,
+            why,
+            origin,
+            packets,
+        })?;
+    }
+    Ok(())
+}
+
+/// The places of a report.
+fn reported<'a>(alloc: Global, report: &Report) -> Result<Vec<DropPlace<'a>>, AllocError> {
+    let mut all = Vec::new(alloc);
+    for (k, port) in (0..8u8).zip(report.ports.as_slice()) {
+        push_place(&mut all, Entry::Port(k), ("oversize", None), port.oversize)?;
+        push_place(&mut all, Entry::Port(k), ("nobuf", None), port.nobuf)?;
+    }
+    for (k, left) in (0..8u8).zip(report.rings.as_slice()) {
+        push_place(&mut all, Entry::Ring(k), ("left", None), *left)?;
     }
     Ok(all)
+}
+
+impl<'a> Counting<'a> {
+    /// The places where packets of the run with this report ended without being sent, the one with most packets first. Together they are all records that
+    /// were dropped, all packets that a `free` freed, and all that were left in rings.
+    ///
+    /// # Errors
+    ///
+    /// `AllocError` if memory is refused.
+    pub fn drops(&self, alloc: Global, report: &Report) -> Result<Vec<DropPlace<'a>>, AllocError> {
+        let mut places = reported(alloc, report)?;
+        for source in self.sources.as_slice() {
+            for line in source.lines_counted(alloc, &self.counts)?.as_slice() {
+                let cause = ("freed", Some(line.origin));
+                push_place(&mut places, source.node, cause, line.dropped)?;
+            }
+        }
+        places.sort_by_key(|place| u64::MAX - place.packets)?;
+        Ok(places)
+    }
+
+    /// The counts that have names, in the order of the programs and of the first instruction with each name. A name that stands several times in a program
+    /// is one count.
+    ///
+    /// # Errors
+    ///
+    /// `AllocError` if memory is refused.
+    pub fn named(&self, alloc: Global) -> Result<Vec<NamedCount<'a>>, AllocError> {
+        let mut all = Vec::new(alloc);
+        for source in self.sources.as_slice() {
+            for line in source.lines.as_slice() {
+                if let Some(step) = line.step
+                    && let Some(comment) = words_of(line.text).comment()
+                    && let Some((name, _rest)) = counter_in(comment)
+                {
+                    let ran = self.counts.step(source.node, step.label).ran;
+                    add_named(&mut all, source.node, name, ran)?;
+                }
+            }
+        }
+        Ok(all)
+    }
 }

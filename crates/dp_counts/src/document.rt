@@ -1,26 +1,14 @@
 //! The counts of a run as parts of a document.
 
-use crate::by_line::{DropCause, DropPlace, LineCounts, NamedCount};
-use crate::counts::Counts;
+use crate::by_line::{DropPlace, LineCounts};
+use crate::counting::Counting;
 use crate::listing::{Total, first_eight, total_of};
 use crate::source::{NodeSource, Role, words_of};
 use dp_console::{Document, Item};
-use dp_model::{Entry, Env};
-
-/// The names of ports, and then those of rings.
-const NODES: [&str; 16] = [
-    "port 0", "port 1", "port 2", "port 3", "port 4", "port 5", "port 6", "port 7", //
-    "ring 0", "ring 1", "ring 2", "ring 3", "ring 4", "ring 5", "ring 6", "ring 7",
-];
-
-/// The name of a node.
-fn name_of(node: Entry) -> Item<'static> {
-    let place = match node {
-        Entry::Port(index) => usize::from(index),
-        Entry::Ring(index) => usize::from(index) + 8,
-    };
-    Item::Text(NODES.get(place).unwrap_or(&""))
-}
+use dp_engine::Report;
+use dp_load::NodeName;
+use dp_model::Env;
+use std::alloc::{AllocError, Global};
 
 /// The comment of a line of a program, or `null`, and its code.
 fn parts_of(line: &[u8]) -> (Item<'_>, Item<'_>) {
@@ -40,26 +28,50 @@ fn number_of(line: Option<usize>) -> Item<'static> {
     }
 }
 
-/// The counts of a run: its programs, in UTF-8, with their counts, the sums for each table and each ring, and the least free buffers of each pool.
-#[derive(Clone, Copy)]
-pub struct CountsDocument<'p, 'a> {
-    pub counts: &'p Counts,
-    pub env: &'p Env,
-    pub sources: &'p [NodeSource<'a>],
-}
-
-/// Writes an object of numbers.
-fn write_numbers(to: &mut Document, numbers: &[(&str, u64)]) {
+/// Adds an object of numbers.
+pub fn write_numbers(members: &[(&str, u64)], to: &mut Document) {
     to.begin_object("");
-    for (name, number) in numbers {
+    for (name, number) in members {
         to.item(name, Item::Number(*number));
     }
     to.end_object();
 }
 
-impl CountsDocument<'_, '_> {
-    /// Writes the instructions of a program with their counts.
-    fn write_steps(self, source: &NodeSource<'_>, to: &mut Document) {
+/// Adds a place where packets ended. What `dpv build` wrote a program from is code alone.
+fn write_place(place: &DropPlace<'_>, to: &mut Document) {
+    let (mut file, mut line) = (Item::Null, Item::Null);
+    let (mut comment, mut text) = (Item::Null, Item::Null);
+    if let Some(origin) = place.origin {
+        (file, line) = (Item::Text(origin.file), number_of(origin.line));
+        (comment, text) = match origin.is_built {
+            true => (Item::Null, Item::Text(origin.text)),
+            false => parts_of(origin.text.as_bytes()),
+        };
+    }
+    to.begin_object("");
+    to.items(&[("comment", comment), ("file", file), ("line", line)]);
+    to.shown("node", NodeName(place.node));
+    to.item("packets", Item::Number(place.packets));
+    to.items(&[("text", text), ("why", Item::Text(place.why))]);
+    to.end_object();
+}
+
+/// Adds a line of a source with its counts.
+fn write_line(counts: &LineCounts<'_>, to: &mut Document) {
+    let members = [
+        ("came", Item::Number(counts.came)),
+        ("dropped", Item::Number(counts.dropped)),
+        ("file", Item::Text(counts.origin.file)),
+        ("line", number_of(counts.origin.line)),
+        ("sent", Item::Number(counts.sent)),
+        ("text", Item::Text(counts.origin.text)),
+    ];
+    to.object("", &members);
+}
+
+impl Counting<'_> {
+    /// Adds the instructions of a program with their counts.
+    fn write_steps(&self, source: &NodeSource<'_>, to: &mut Document) {
         for line in source.lines.as_slice() {
             if let Some(step) = line.step {
                 let counts = self.counts.step(source.node, step.label);
@@ -84,142 +96,130 @@ impl CountsDocument<'_, '_> {
         }
     }
 
-    /// Writes the programs with their counts.
-    fn write_nodes(self, to: &mut Document) {
-        for source in self.sources {
+    /// Adds the programs with their counts.
+    fn write_nodes(&self, to: &mut Document) {
+        to.begin_list("nodes");
+        for source in self.sources.as_slice() {
             to.begin_object("");
             to.item("file", Item::Text(source.name));
             to.begin_list("instructions");
             self.write_steps(source, to);
             to.end_list();
-            to.item("node", name_of(source.node));
+            to.shown("node", NodeName(source.node));
             to.end_object();
         }
+        to.end_list();
     }
 
-    /// Writes how few buffers of each pool were free.
-    fn write_pools(self, to: &mut Document) {
+    /// Adds how few buffers of each pool were free.
+    fn write_pools(&self, env: &Env, to: &mut Document) {
         let free = self.counts.levels().free;
-        for (k, pool) in first_eight(self.env.pools()).iter().enumerate() {
+        to.begin_list("pools");
+        for (k, pool) in first_eight(env.pools()).iter().enumerate() {
             let (count, least) = (u64::from(pool.count), u64::from(free[k].min(pool.count)));
             write_numbers(
-                to,
                 &[("count", count), ("least", least), ("pool", k as u64)],
+                to,
             );
         }
+        to.end_list();
     }
 
-    /// Writes how full each ring was.
-    fn write_rings(self, to: &mut Document) {
+    /// Adds how full each ring was.
+    fn write_rings(&self, env: &Env, to: &mut Document) {
         let waited = self.counts.levels().waited;
-        for (k, ring) in first_eight(self.env.rings()).iter().enumerate() {
-            let capacity = ("capacity", u64::from(ring.count.saturating_sub(1)));
-            let full = total_of(self.counts, Total::Full(k as u8), self.sources);
-            let most = ("most", u64::from(waited[k]));
-            write_numbers(to, &[capacity, ("full", full), most, ("ring", k as u64)]);
-        }
-    }
-
-    /// Writes the lookups in each table.
-    fn write_tables(self, to: &mut Document) {
-        for table in 0..self.env.tables() {
-            let hits = total_of(self.counts, Total::Hits(table), self.sources);
-            let misses = total_of(self.counts, Total::Misses(table), self.sources);
-            let table = u64::from(table);
-            write_numbers(to, &[("hits", hits), ("misses", misses), ("table", table)]);
-        }
-    }
-
-    /// Adds the counts to a document, as a member of this name.
-    pub fn write(self, name: &str, to: &mut Document) {
-        to.begin_object(name);
-        to.begin_list("nodes");
-        self.write_nodes(to);
-        to.end_list();
-        to.begin_list("pools");
-        self.write_pools(to);
-        to.end_list();
         to.begin_list("rings");
-        self.write_rings(to);
+        for (k, ring) in first_eight(env.rings()).iter().enumerate() {
+            let capacity = ("capacity", u64::from(ring.count.saturating_sub(1)));
+            let full = total_of(&self.counts, Total::Full(k as u8), self.sources.as_slice());
+            let most = ("most", u64::from(waited[k]));
+            write_numbers(&[capacity, ("full", full), most, ("ring", k as u64)], to);
+        }
         to.end_list();
+    }
+
+    /// Adds the lookups in each table.
+    fn write_tables(&self, env: &Env, to: &mut Document) {
+        let sources = self.sources.as_slice();
         to.begin_list("tables");
-        self.write_tables(to);
+        for table in 0..env.tables() {
+            let hits = ("hits", total_of(&self.counts, Total::Hits(table), sources));
+            let misses = (
+                "misses",
+                total_of(&self.counts, Total::Misses(table), sources),
+            );
+            write_numbers(&[hits, misses, ("table", u64::from(table))], to);
+        }
         to.end_list();
+    }
+
+    /// Adds to a document, as its member `counts`, the programs of a run, in UTF-8, with their counts, the sums for each table and each ring, and the least
+    /// free buffers of each pool.
+    pub fn write(&self, env: &Env, to: &mut Document) {
+        to.begin_object("counts");
+        self.write_nodes(to);
+        self.write_pools(env, to);
+        self.write_rings(env, to);
+        self.write_tables(env, to);
         to.end_object();
     }
-}
 
-impl<'a> DropCause<'a> {
-    /// Its word.
-    fn word(self) -> &'static str {
-        match self {
-            DropCause::Oversize => "oversize",
-            DropCause::NoBuffers => "nobuf",
-            DropCause::Left => "left",
-            DropCause::Freed(_) => "freed",
+    /// Adds, as the member `lines`, the counts by the lines of the sources.
+    ///
+    /// # Errors
+    ///
+    /// `AllocError` if memory is refused.
+    pub fn write_lines(&self, alloc: Global, to: &mut Document) -> Result<(), AllocError> {
+        to.begin_list("lines");
+        for source in self.sources.as_slice() {
+            to.begin_object("");
+            to.item("file", Item::Text(source.file()));
+            to.begin_list("lines");
+            for line in source.lines_counted(alloc, &self.counts)?.as_slice() {
+                write_line(line, to);
+            }
+            to.end_list();
+            to.shown("node", NodeName(source.node));
+            to.end_object();
         }
+        to.end_list();
+        Ok(())
     }
 
-    /// The file, the line, the comment and the code that control came from, each `null` if there is none. What `dpv build` wrote a program from is code
-    /// alone.
-    fn items(self) -> [Item<'a>; 4] {
-        let DropCause::Freed(origin) = self else {
-            return [Item::Null; 4];
-        };
-        let (comment, code) = if origin.is_built {
-            (Item::Null, Item::Text(origin.text))
-        } else {
-            parts_of(origin.text.as_bytes())
-        };
-        [
-            Item::Text(origin.file),
-            number_of(origin.line),
-            comment,
-            code,
-        ]
+    /// Adds, as the member `named`, the counts that have names.
+    ///
+    /// # Errors
+    ///
+    /// `AllocError` if memory is refused.
+    pub fn write_named(&self, alloc: Global, to: &mut Document) -> Result<(), AllocError> {
+        to.begin_list("named");
+        for own in self.named(alloc)?.as_slice() {
+            to.begin_object("");
+            to.item("name", Item::Text(own.name));
+            to.shown("node", NodeName(own.node));
+            to.item("packets", Item::Number(own.packets));
+            to.end_object();
+        }
+        to.end_list();
+        Ok(())
     }
-}
 
-impl DropPlace<'_> {
-    /// Adds the place to a document, as a member of this name.
-    pub fn write(self, name: &str, to: &mut Document) {
-        let [file, line, comment, text] = self.cause.items();
-        let members = [
-            ("comment", comment),
-            ("file", file),
-            ("line", line),
-            ("node", name_of(self.node)),
-            ("packets", Item::Number(self.packets)),
-            ("text", text),
-            ("why", Item::Text(self.cause.word())),
-        ];
-        to.object(name, &members);
-    }
-}
-
-impl LineCounts<'_> {
-    /// Adds the counts of the line to a document, as a member of this name.
-    pub fn write(self, name: &str, to: &mut Document) {
-        let members = [
-            ("came", Item::Number(self.came)),
-            ("dropped", Item::Number(self.dropped)),
-            ("file", Item::Text(self.origin.file)),
-            ("line", number_of(self.origin.line)),
-            ("sent", Item::Number(self.sent)),
-            ("text", Item::Text(self.origin.text)),
-        ];
-        to.object(name, &members);
-    }
-}
-
-impl NamedCount<'_> {
-    /// Adds the count to a document, as a member of this name.
-    pub fn write(self, name: &str, to: &mut Document) {
-        let members = [
-            ("name", Item::Text(self.name)),
-            ("node", name_of(self.node)),
-            ("packets", Item::Number(self.packets)),
-        ];
-        to.object(name, &members);
+    /// Adds, as the member `drops`, the places where packets of the run with this report ended.
+    ///
+    /// # Errors
+    ///
+    /// `AllocError` if memory is refused.
+    pub fn write_drops(
+        &self,
+        alloc: Global,
+        report: &Report,
+        to: &mut Document,
+    ) -> Result<(), AllocError> {
+        to.begin_list("drops");
+        for place in self.drops(alloc, report)?.as_slice() {
+            write_place(place, to);
+        }
+        to.end_list();
+        Ok(())
     }
 }

@@ -3,11 +3,10 @@
 //! A caller makes `Counts` and gives them to `run_watched` of dp_pipe, or to an engine's `watched_turn`, as the watcher. A step to the next
 //! instruction counts nothing: control comes to a label from the one before, unless an event says otherwise. So only the beginnings of node
 //! runs, taken jumps, ends and cuts are counted, and how often an instruction ran is their sum up to its label. An event takes no memory.
-//! After the run, `print_programs` prints the programs in the words of their source with their counts, and `print_tables` and `print_rings`
-//! the sums for each table and ring; `CountsDocument` is all of that as JSON, which `counts_of` reads. `lines_counted` sums by the lines of a
-//! source, of the language pkt where `dpv build` wrote the program; `drop_places` is where packets ended, and `named_counts` what has a name.
-//! `Counting` is the counts of a run with the sources of its programs. `Losses` is a watcher that counts only what was refused, `print_report` prints
-//! the report of a run, and `Notes` says what it lost.
+//! `Counting` is the counts of a run with the sources of its programs. After the run, its `say` says the programs in the words of their source with
+//! their counts, and the sums for each table and ring; its `write` adds all of that to a JSON document, which `counts_of` reads. `lines_counted` sums by
+//! the lines of a source, of the language pkt where `dpv build` wrote the program; `drops` is where packets ended, and `named` the counts that have names.
+//! `Losses` is a watcher that counts only what was refused, `say_report` says the report of a run, and `Notes` what it lost.
 //!
 //! Who owns what: the caller owns the `Counts` and lends them to the run; `Counting` borrows the texts of the programs. Only `new` takes memory, 560 kB.
 //!
@@ -29,20 +28,15 @@ mod reader;
 mod report;
 mod source;
 
-pub use by_line::{
-    DropCause, DropPlace, LineCounts, NamedCount, Origin, drop_places, lines_counted, named_counts,
-    source_name,
-};
-pub use counting::{
-    Counting, ProgramText, Wanted, say_lines, say_place, say_refusals, write_listing,
-};
+pub use by_line::{DropPlace, LineCounts, NamedCount, Origin};
+pub use counting::{Counting, Wanted, say_refusals};
 pub use counts::{Counts, StepCounts};
-pub use document::CountsDocument;
+pub use document::write_numbers;
 pub use laws::{counts_are_of_steps, counts_are_of_turns, counts_begin_at_zero, turns_are_runs};
 pub use levels::Levels;
-pub use listing::{Total, print_pools, print_programs, print_rings, print_tables, total_of};
+pub use listing::{Total, total_of};
 pub use losses::{Losses, Refusals};
 pub use notes::{Notes, NumbersFrom};
 pub use reader::{CountsError, ReadCount, counts_of};
-pub use report::{Totals, print_report};
-pub use source::{NodeSource, Role, SourceLine, Step, lines_of};
+pub use report::{Totals, say_report};
+pub use source::{NodeSource, ProgramText, Role, SourceLine, Step};

@@ -1,108 +1,85 @@
-//! Prints the programs of a pipeline with their counts, the sums for each table and each ring, and how few buffers of each pool were free.
-ghost use Rattle.std.specs.Prelude.{◌≡◌, ◌≤◌, OnOk, length, take};
-ghost use Rattle.std.specs.Io.KnownBytes.{Appends};
+//! Says the programs of a pipeline with their counts, the sums for each table and each ring, and how few buffers of each pool were free.
+ghost use Rattle.std.specs.Prelude.{◌≡◌, ◌≤◌, Some, length, take};
+ghost use Rattle.dp_console.specs.Replies.{Says};
 ghost use Rattle.dp_counts.specs.Listings as spec;
 ghost use Rattle.dp_counts.specs.Totals as totals;
 
 use crate::counts::{Counts, StepCounts};
 use crate::levels::Levels;
 use crate::source::{NodeSource, Role, SourceLine};
+use dp_console::Text;
+use dp_load::NodeName;
 use dp_model::{Entry, PoolSpec, RingSpec};
-use std::io::{self, Write};
 
-// Prints the columns of an instruction: how often it ran, and how often its jump was taken, or the word for packets that ended there.
-fn print_columns<O: Write>(role: Role, counts: StepCounts, out: &mut O) -> io::Result<()>
-    ensures { OnOk result (Appends (O.contents out.old) (O.contents out.new) (spec.columns_of role counts)) }
+// Says bytes.
+fn say_bytes(bytes: &[u8], out: &mut Text)
+    ensures { Says out.old out.new (Some bytes.now) }
+{
+    out.has_failed |= out.bytes.extend_from_slice(bytes).is_err();
+}
+
+// Says the columns of an instruction: how often it ran, and how often its jump was taken, or the word for packets that ended there.
+fn say_columns(role: Role, counts: StepCounts, out: &mut Text)
+    ensures { Says out.old out.new (Some (spec.columns_of role counts)) }
 {
     let StepCounts { ran, taken, .. } = counts;
     let word = match role {
         Role::Frees if ran > 0 => "     freed  ",
         Role::Ends if ran > 0 => "     ended  ",
         Role::Plain | Role::Frees | Role::Ends => "            ",
-        _ => return write!(out, "{ran:>10}{taken:>10}  "),
+        _ => return out.say(format_args!("{ran:>10}{taken:>10}  ")),
     };
-    write!(out, "{ran:>10}{word}")
+    out.say(format_args!("{ran:>10}{word}"));
 }
 
-// Prints a text after two empty columns.
-fn print_indented<O: Write>(text: &[u8], out: &mut O) -> io::Result<()>
-    ensures { OnOk result (Appends (O.contents out.old) (O.contents out.new) (spec.indented text.now)) }
+// Says a line without an instruction, after two empty columns.
+#[tactic(auto, using(crate::proofs::Lines::says_nothing, crate::proofs::Lines::says_both))]
+fn say_other(text: &[u8], out: &mut Text)
+    ensures { Says out.old out.new (Some (spec.other_line text.now)) }
 {
-    write!(out, "                      ")?;
-    out.write_all(text)?;
-    writeln!(out)
-}
-
-// Prints a line without an instruction.
-fn print_other<O: Write>(text: &[u8], out: &mut O) -> io::Result<()>
-    ensures { OnOk result (Appends (O.contents out.old) (O.contents out.new) (spec.other_line text.now)) }
-{
-    match text {
-        [] => writeln!(out),
-        _ => print_indented(text, out),
+    if let [_, ..] = text {
+        out.say("                      ");
+        say_bytes(text, out);
     }
+    out.say("\n");
 }
 
-// Prints a line of a program, and how many node runs were cut at its instruction, if there were any.
-#[tactic(auto, using(std::proofs::lemmas::Grind::common_steps))]
-fn print_line<O: Write>(
-    counts: &Counts,
-    node: Entry,
-    line: &SourceLine<'_>,
-    out: &mut O,
-) -> io::Result<()>
-    ensures { OnOk result (Appends (O.contents out.old) (O.contents out.new) (spec.line_text counts.now node line.now)) }
+// Says a line of a program, and how many node runs were cut at its instruction, if there were any.
+#[tactic(auto, using(crate::proofs::Lines::says_both))]
+fn say_line(counts: &Counts, node: Entry, line: &SourceLine<'_>, out: &mut Text)
+    ensures { Says out.old out.new (Some (spec.line_text counts.now node line.now)) }
 {
     let Some(step) = line.step else {
-        return print_other(line.text, out);
+        return say_other(line.text, out);
     };
     let counts = counts.step(node, step.label);
-    print_columns(step.role, counts, out)?;
-    out.write_all(line.text)?;
-    if counts.cut == 0 {
-        return writeln!(out);
+    say_columns(step.role, counts, out);
+    say_bytes(line.text, out);
+    match counts.cut {
+        0 => out.say("\n"),
+        cut => out.say(format_args!("\n{cut:>10}       cut\n")),
     }
-    writeln!(out, "\n{:>10}       cut", counts.cut)
 }
 
-// Prints the lines of a program.
-#[tactic(auto, using(std::proofs::lemmas::Grind::common_steps))]
-fn print_lines<O: Write>(counts: &Counts, source: &NodeSource<'_>, out: &mut O) -> io::Result<()>
-    ensures { OnOk result (Appends (O.contents out.old) (O.contents out.new) (spec.lines_text counts.now source.now.node source.now.lines.items)) }
+// Says the lines of a program.
+#[tactic(auto, using(crate::proofs::Lines::says_both))]
+fn say_lines(counts: &Counts, source: &NodeSource<'_>, out: &mut Text)
+    ensures { Says out.old out.new (Some (spec.lines_text counts.now source.now.node source.now.lines.items)) }
 {
     for line in source.lines.as_slice() {
-        print_line(counts, source.node, line, out)?;
-    }
-    Ok(())
-}
-
-// Prints the node and the file of a program, and the names of the columns.
-fn print_heading<O: Write>(node: Entry, name: &str, out: &mut O) -> io::Result<()>
-    ensures { OnOk result (Appends (O.contents out.old) (O.contents out.new) (spec.heading node name.now)) }
-{
-    match node {
-        Entry::Port(port) => writeln!(out, "port {port} {name}\n       ran     taken"),
-        Entry::Ring(ring) => writeln!(out, "ring {ring} {name}\n       ran     taken"),
+        say_line(counts, source.node, line, out);
     }
 }
 
-/// Prints the programs of a pipeline with their counts.
-///
-/// # Errors
-///
-/// The error of the first write that failed.
-pub fn print_programs<O: Write>(
-    counts: &Counts,
-    sources: &[NodeSource<'_>],
-    out: &mut O,
-) -> io::Result<()>
-    ensures { OnOk result (Appends (O.contents out.old) (O.contents out.new) (spec.programs_text counts.now sources.now)) }
+// Says the programs of a pipeline with their counts, each below its node, its file, and the names of the columns.
+pub(crate) fn say_programs(counts: &Counts, sources: &[NodeSource<'_>], out: &mut Text)
+    ensures { Says out.old out.new (Some (spec.programs_text counts.now sources.now)) }
 {
     for source in sources {
-        print_heading(source.node, source.name, out)?;
-        print_lines(counts, source, out)?;
+        let (node, name) = (NodeName(source.node), source.name);
+        out.say(format_args!("{node} {name}\n       ran     taken\n"));
+        say_lines(counts, source, out);
     }
-    Ok(())
 }
 
 /// A sum over instructions of several programs.
@@ -156,25 +133,16 @@ pub fn total_of(counts: &Counts, total: Total, sources: &[NodeSource<'_>]) -> u6
     sum
 }
 
-/// Prints for each table how many lookups in it found a hop, and how many found none.
-///
-/// # Errors
-///
-/// The error of the first write that failed.
-pub fn print_tables<O: Write>(
-    counts: &Counts,
-    tables: u8,
-    sources: &[NodeSource<'_>],
-    out: &mut O,
-) -> io::Result<()>
-    ensures { OnOk result (Appends (O.contents out.old) (O.contents out.new) (totals.table_lines counts.now sources.now tables)) }
+// Says for each table how many lookups in it found a hop, and how many found none.
+#[tactic(auto, using(crate::proofs::Lines::says_both))]
+pub(crate) fn say_tables(counts: &Counts, tables: u8, sources: &[NodeSource<'_>], out: &mut Text)
+    ensures { Says out.old out.new (Some (totals.table_lines counts.now sources.now tables)) }
 {
     for table in 0..tables {
         let hits = total_of(counts, Total::Hits(table), sources);
         let misses = total_of(counts, Total::Misses(table), sources);
-        writeln!(out, "table {table} hits {hits} misses {misses}")?;
+        out.say(format_args!("table {table} hits {hits} misses {misses}\n"));
     }
-    Ok(())
 }
 
 // The rings or pools that a pipeline can have: the first eight.
@@ -185,42 +153,32 @@ pub(crate) fn first_eight<T>(parts: &[T]) -> &[T]
     if parts.len() > 8 { &parts[..8] } else { parts }
 }
 
-/// Prints for each ring, eight at most, the most packets that waited in it, its capacity, and how often it was full.
-///
-/// # Errors
-///
-/// The error of the first write that failed.
-pub fn print_rings<O: Write>(
+// Says for each ring, eight at most, the most packets that waited in it, its capacity, and how often it was full.
+pub(crate) fn say_rings(
     counts: &Counts,
     levels: &Levels,
     rings: &[RingSpec],
     sources: &[NodeSource<'_>],
-    out: &mut O,
-) -> io::Result<()>
-    ensures { OnOk result (Appends (O.contents out.old) (O.contents out.new) (totals.ring_lines counts.now levels.now sources.now (take 8 rings.now))) }
+    out: &mut Text,
+)
+    ensures { Says out.old out.new (Some (totals.ring_lines counts.now levels.now sources.now (take 8 rings.now))) }
 {
     let rings = first_eight(rings);
     for k in 0..rings.len() {
         let (waited, most) = (levels.waited[k], rings[k].count.saturating_sub(1));
         let full = total_of(counts, Total::Full(k as u8), sources);
-        writeln!(out, "ring {k} waited {waited} of {most} full {full}")?;
+        out.say(format_args!("ring {k} waited {waited} of {most} full {full}\n"));
     }
-    Ok(())
 }
 
-/// Prints for each pool, eight at most, the least number of its buffers that were free, and how many it has.
-///
-/// # Errors
-///
-/// The error of the first write that failed.
-pub fn print_pools<O: Write>(levels: &Levels, pools: &[PoolSpec], out: &mut O) -> io::Result<()>
-    ensures { OnOk result (Appends (O.contents out.old) (O.contents out.new) (totals.pool_lines levels.now (take 8 pools.now))) }
+// Says for each pool, eight at most, the least number of its buffers that were free, and how many it has.
+pub(crate) fn say_pools(levels: &Levels, pools: &[PoolSpec], out: &mut Text)
+    ensures { Says out.old out.new (Some (totals.pool_lines levels.now (take 8 pools.now))) }
 {
     let pools = first_eight(pools);
     for k in 0..pools.len() {
         let count = pools[k].count;
         let least = levels.free[k].min(count);
-        writeln!(out, "pool {k} least {least} of {count}")?;
+        out.say(format_args!("pool {k} least {least} of {count}\n"));
     }
-    Ok(())
 }

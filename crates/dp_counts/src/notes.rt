@@ -6,7 +6,6 @@ use dp_engine::{InputState, PortReport, Report};
 use dp_load::NodeName;
 use dp_model::{Entry, Env, MAX_BUFFERS, MAX_RING, MAX_ROOM, MAX_SEGMENTS, PortSpec};
 use dp_region::{CACHE_LINE, MIN_REGION};
-use std::fmt::Display;
 
 /// Where the numbers of a run's pipeline are given, which may be too small.
 #[derive(Clone, Copy)]
@@ -35,7 +34,6 @@ pub struct Notes {
 #[derive(Clone, Copy)]
 struct Noted<'a> {
     report: &'a Report,
-    refusals: Refusals,
     env: &'a Env,
     origin: NumbersFrom,
 }
@@ -47,30 +45,31 @@ fn word(number: u64, one: &'static str, others: &'static str) -> &'static str {
 
 impl Noted<'_> {
     /// Ends a note with what helps where a number of a pipeline file is too small; these options, if there are any, stand for it.
-    fn end<T: Display + Drop>(self, is_most: bool, number: T, options: &str, out: &mut Text) {
-        match self.origin {
-            _ if is_most => out.say(": no pipeline may have more\n"),
-            NumbersFrom::File => out.say(format_args!(": raise {number}\n")),
-            NumbersFrom::Options if options != "" => out.say(format_args!(": raise {options}\n")),
-            NumbersFrom::Options | NumbersFrom::Fixed => out.say(
-                ": a pipeline file may give more\n",
-            ),
-        }
+    fn end(self, is_most: bool, number: &str, options: &str, out: &mut Text) {
+        let (help, number) = match self.origin {
+            _ if is_most => ("no pipeline may have more", ""),
+            NumbersFrom::File => ("raise ", number),
+            NumbersFrom::Options if options != "" => ("raise ", options),
+            _ => ("a pipeline file may give more", ""),
+        };
+        out.say(format_args!(": {help}{number}\n"));
     }
 
     /// Ends a note with what helps where a pool has too few buffers.
     fn end_of_pool(self, pool: u32, out: &mut Text) {
-        let calls = self.report.refused;
+        let (calls, own) = (self.report.refused, self.env.pools().get(pool as usize));
+        let is_most = own.is_none_or(|own| own.count >= MAX_BUFFERS);
         if calls > 0 {
             let word = word(calls, "call", "calls");
-            return out.say(format_args!(": --refuse refused {calls} {word}\n"));
+            out.say(format_args!(": --refuse refused {calls} {word}\n"));
+        } else if !is_most && matches!(self.origin, NumbersFrom::File) {
+            out.say(format_args!(": raise the count of pool {pool}\n"));
+        } else {
+            self.end(is_most, "", "", out);
         }
-        let own = self.env.pools().get(pool as usize);
-        let is_most = own.is_none_or(|own| own.count >= MAX_BUFFERS);
-        self.end(is_most, format_args!("the count of pool {pool}"), "", out);
     }
 
-    /// Says which records of a port were not received.
+    /// Says which records of a port were not received, and which is not read.
     fn say_records(self, k: u8, port: &PortSpec, numbers: &PortReport, out: &mut Text) {
         let (long, few) = (numbers.oversize, numbers.nobuf);
         if long > 0
@@ -83,12 +82,12 @@ impl Noted<'_> {
             self.end(is_most, "segs or room", "--segs or --room", out);
         }
         if few > 0 {
-            let found = match self.report.refused {
-                0 => "found too few free buffers",
-                _ => "got no buffers",
-            };
             let records = word(few, "record", "records");
-            out.say(format_args!("port {k}: {few} {records} {found}"));
+            let found = match self.report.refused {
+                0 => "found too few free",
+                _ => "got no",
+            };
+            out.say(format_args!("port {k}: {few} {records} {found} buffers"));
             self.end_of_pool(port.pool, out);
         }
     }
@@ -107,9 +106,9 @@ impl Noted<'_> {
     }
 
     /// Says what ports lost.
-    fn say_ports(self, out: &mut Text) {
+    fn say_ports(self, full: [u64; 8], out: &mut Text) {
         let ports = self.report.ports.as_slice().iter().zip(self.env.ports());
-        for (k, ((numbers, port), full)) in (0..8u8).zip(ports.zip(self.refusals.lists)) {
+        for (k, ((numbers, port), full)) in (0..8u8).zip(ports.zip(full)) {
             self.say_records(k, port, numbers, out);
             self.say_full(Entry::Port(k), full, port.queue, out);
             if let InputState::Cut(byte) = numbers.state {
@@ -120,9 +119,9 @@ impl Noted<'_> {
     }
 
     /// Says what rings lost.
-    fn say_rings(self, out: &mut Text) {
+    fn say_rings(self, full: [u64; 8], out: &mut Text) {
         let rings = self.report.rings.as_slice().iter().zip(self.env.rings());
-        for (k, ((left, ring), full)) in (0..8u8).zip(rings.zip(self.refusals.rings)) {
+        for (k, ((left, ring), full)) in (0..8u8).zip(rings.zip(full)) {
             self.say_full(Entry::Ring(k), full, ring.count, out);
             if *left > 0 {
                 let were = word(*left, "packet was", "packets were");
@@ -133,20 +132,14 @@ impl Noted<'_> {
         }
     }
 
-    /// Says which buffers programs did not get, and which node runs were cut.
-    fn say_programs(self, out: &mut Text) {
-        for (k, number) in (0..8u32).zip(self.refusals.pools) {
+    /// Says which buffers programs did not get.
+    fn say_pools(self, refused: [u64; 8], out: &mut Text) {
+        for (k, number) in (0..8u32).zip(refused) {
             if number > 0 {
                 let times = word(number, "time", "times");
                 out.say(format_args!("pool {k}: alloc or clone got no buffers {number} {times}"));
                 self.end_of_pool(k, out);
             }
-        }
-        let cut = self.report.cut;
-        if cut > 0 {
-            let runs = word(cut, "node run was cut: it", "node runs were cut: each");
-            out.say(format_args!("{cut} {runs} took more than 256 backward jumps, "));
-            out.say("and its packets were freed; --counts shows which loop\n");
         }
     }
 }
@@ -163,19 +156,23 @@ impl Notes {
 
     /// Says what the run with this report lost.
     pub fn say(self, report: &Report, refusals: Refusals, env: &Env, out: &mut Text) {
+        let (origin, cut) = (self.origin, report.cut);
+        let noted = Noted {
+            report,
+            env,
+            origin,
+        };
         if self.region < self.needed {
             self.say_region(out);
         } else {
-            let origin = self.origin;
-            let noted = Noted {
-                report,
-                refusals,
-                env,
-                origin,
-            };
-            noted.say_ports(out);
-            noted.say_rings(out);
-            noted.say_programs(out);
+            noted.say_ports(refusals.lists, out);
+            noted.say_rings(refusals.rings, out);
+            noted.say_pools(refusals.pools, out);
+            if cut > 0 {
+                let runs = word(cut, "node run was cut: it", "node runs were cut: each");
+                out.say(format_args!("{cut} {runs} took more than 256 backward jumps, "));
+                out.say("and its packets were freed; --counts shows which loop\n");
+            }
         }
         for (port, records) in self.truncated.into_iter().enumerate() {
             if records > 0 {

@@ -1,11 +1,12 @@
 //! Reads the counts of a node from the document that `dpv run FILE --counts --json` prints.
 
+use CountsError::{BadMember, NotJson};
 use serde_json::Value;
 use std::alloc::Global;
 use std::fmt;
 
 /// How often an instruction ran, as read from a document.
-#[derive(Clone, Copy, PartialEq, Eq)]
+#[derive(Clone, Copy)]
 pub struct ReadCount {
     /// How often it ran.
     pub ran: u64,
@@ -13,23 +14,18 @@ pub struct ReadCount {
     pub taken: Option<u64>,
 }
 
+/// The name of a member that is not what it must be, and what that is.
+type Member = (&'static str, &'static str);
+
 /// Why there are no counts of a node in a text.
-#[derive(Clone, Copy, PartialEq, Eq)]
+#[derive(Clone, Copy)]
 pub enum CountsError {
     /// Memory was refused.
     Memory,
     /// The text is not JSON, from this line and column; both count from 1, and are 0 for a text that is not UTF-8.
-    NotJson {
-        line: usize,
-        column: usize,
-    },
+    NotJson(usize, usize),
     /// A member is missing, or is not what it must be: of the document itself, of a node, or of an instruction of a node, each by its index from 0.
-    BadMember {
-        node: Option<usize>,
-        instruction: Option<usize>,
-        name: &'static str,
-        wanted: &'static str,
-    },
+    BadMember(Option<usize>, Option<usize>, Member),
     /// There is no node with the name.
     NoNode,
 }
@@ -38,15 +34,10 @@ impl fmt::Display for CountsError {
     fn fmt<W: fmt::Write>(&self, f: &mut fmt::Formatter<W>) -> fmt::Result {
         match *self {
             CountsError::Memory => f.write_str("memory"),
-            CountsError::NotJson { line, column } => {
+            NotJson(line, column) => {
                 write!(f, "line {line} column {column}: the text is not JSON")
             }
-            CountsError::BadMember {
-                node,
-                instruction,
-                name,
-                wanted,
-            } => {
+            BadMember(node, instruction, (name, wanted)) => {
                 if let Some(node) = node {
                     write!(f, "counts.nodes[{node}].")?;
                 }
@@ -57,19 +48,6 @@ impl fmt::Display for CountsError {
             }
             CountsError::NoNode => f.write_str("it has no counts of this node"),
         }
-    }
-}
-
-/// The name of a member that is not what it must be, and what that is.
-type Member = (&'static str, &'static str);
-
-/// The error for a member.
-fn bad(node: Option<usize>, instruction: Option<usize>, (name, wanted): Member) -> CountsError {
-    CountsError::BadMember {
-        node,
-        instruction,
-        name,
-        wanted,
     }
 }
 
@@ -101,14 +79,14 @@ fn step_of(value: &Value, number: usize) -> Result<ReadCount, Member> {
 /// The counts of the instructions of the node with this index.
 fn steps_of(alloc: Global, node: &Value, k: usize) -> Result<Vec<ReadCount>, CountsError> {
     let Some(instructions) = node.get("instructions").and_then(Value::as_array) else {
-        return Err(bad(Some(k), None, ("instructions", "a list")));
+        return Err(BadMember(Some(k), None, ("instructions", "a list")));
     };
     let mut steps = Vec::new(alloc);
     for (number, value) in instructions.as_slice().iter().enumerate() {
         match step_of(value, number) {
             Ok(step) if steps.push(step).is_ok() => {}
             Ok(_) => return Err(CountsError::Memory),
-            Err(member) => return Err(bad(Some(k), Some(number), member)),
+            Err(member) => return Err(BadMember(Some(k), Some(number), member)),
         }
     }
     Ok(steps)
@@ -117,14 +95,14 @@ fn steps_of(alloc: Global, node: &Value, k: usize) -> Result<Vec<ReadCount>, Cou
 /// The counts of each instruction of the node with this name in a document.
 fn counts_in(alloc: Global, document: &Value, name: &str) -> Result<Vec<ReadCount>, CountsError> {
     let Some(counts) = document.get("counts") else {
-        return Err(bad(None, None, ("counts", "an object")));
+        return Err(BadMember(None, None, ("counts", "an object")));
     };
     let Some(nodes) = counts.get("nodes").and_then(Value::as_array) else {
-        return Err(bad(None, None, ("counts.nodes", "a list")));
+        return Err(BadMember(None, None, ("counts.nodes", "a list")));
     };
     for (k, node) in nodes.as_slice().iter().enumerate() {
         match node.get("node").and_then(Value::as_str) {
-            None => return Err(bad(Some(k), None, ("node", "a text"))),
+            None => return Err(BadMember(Some(k), None, ("node", "a text"))),
             Some(found) if found == name => return steps_of(alloc, node, k),
             Some(_) => {}
         }
@@ -141,14 +119,11 @@ fn counts_in(alloc: Global, document: &Value, name: &str) -> Result<Vec<ReadCoun
 /// Why there are none, as [`CountsError`] has it.
 pub fn counts_of(alloc: Global, text: &[u8], node: &str) -> Result<Vec<ReadCount>, CountsError> {
     let Ok(text) = std::str::from_utf8(text) else {
-        return Err(CountsError::NotJson { line: 0, column: 0 });
+        return Err(NotJson(0, 0));
     };
     match Value::from_str(alloc, text) {
         Ok(document) => counts_in(alloc, &document, node),
         Err(error) if error.is_memory() => Err(CountsError::Memory),
-        Err(error) => Err(CountsError::NotJson {
-            line: error.line(),
-            column: error.column(),
-        }),
+        Err(error) => Err(NotJson(error.line(), error.column())),
     }
 }

@@ -1,79 +1,69 @@
 //! The report of a run as text.
 
-ghost use Rattle.std.specs.Prelude.{◌≡◌, OnOk};
-ghost use Rattle.std.specs.Io.KnownBytes.{Appends};
+ghost use Rattle.std.specs.Prelude.{◌∷◌, [], ◌++◌, Some};
+ghost use Rattle.dp_console.specs.Replies.{Says};
 ghost use Rattle.dp_counts.specs.Totals.{lines_from};
 ghost use Rattle.dp_counts.specs.Report as spec;
 
+use dp_console::Text;
 use dp_engine::{InputState, PoolReport, PortReport, Report};
-use std::io::Write;
-use std::{fmt, io};
+use std::fmt;
 
-/// How far an input was read: `whole`, `cut` with the offset of the record that is cut short, or `open`.
-#[derive(Clone, Copy)]
-struct StateText(InputState);
-
-impl fmt::Display for StateText {
-    ghost use Rattle.std.specs.Prelude.{Some};
-    ghost use Rattle.dp_counts.specs.Report.{state_text};
-
-    ghost output = { λ text. Some (state_text text.0) };
-
-    fn fmt<W: fmt::Write>(&self, f: &mut fmt::Formatter<W>) -> fmt::Result {
-        match self.0 {
-            InputState::Whole => write!(f, "whole"),
-            InputState::Cut(byte) => write!(f, "cut {byte}"),
-            InputState::Open => write!(f, "open"),
-        }
+/// Says how far an input was read: `whole`, `cut` with the offset of the record that is cut short, or `open`.
+fn say_state(state: InputState, out: &mut Text)
+    ensures { Says out.old out.new (Some (spec.state_text state ++ 10 ∷ [])) }
+{
+    match state {
+        InputState::Whole => out.say("whole\n"),
+        InputState::Cut(byte) => out.say(format_args!("cut {byte}\n")),
+        InputState::Open => out.say("open\n"),
     }
 }
 
-/// Prints a line for each port.
-fn print_ports<O: Write>(ports: &[PortReport], out: &mut O) -> io::Result<()>
-    ensures { OnOk result (Appends (O.contents out.old) (O.contents out.new) (lines_from spec.port_line 0 ports.now)) }
+/// Says a line for each port.
+fn say_ports(ports: &[PortReport], out: &mut Text)
+    ensures { Says out.old out.new (Some (lines_from spec.port_line 0 ports.now)) }
 {
     for (k, port) in ports.iter().enumerate() {
         let (received, nobuf) = (port.received, port.nobuf);
-        write!(out, "port {k} received {received} nobuf {nobuf}")?;
-        let (oversize, sent, state) = (port.oversize, port.sent, StateText(port.state));
-        writeln!(out, " oversize {oversize} sent {sent} input {state}")?;
+        out.say(format_args!("port {k} received {received} nobuf {nobuf}"));
+        let (oversize, sent) = (port.oversize, port.sent);
+        out.say(format_args!(" oversize {oversize} sent {sent} input "));
+        say_state(port.state, out);
     }
-    Ok(())
 }
 
-/// Prints how many packets were left in each ring.
-fn print_rings<O: Write>(rings: &[u64], out: &mut O) -> io::Result<()>
-    ensures { OnOk result (Appends (O.contents out.old) (O.contents out.new) (lines_from spec.ring_line 0 rings.now)) }
+/// Says how many packets were left in each ring.
+fn say_rings(rings: &[u64], out: &mut Text)
+    ensures { Says out.old out.new (Some (lines_from spec.ring_line 0 rings.now)) }
 {
     for (k, left) in rings.iter().enumerate() {
-        writeln!(out, "ring {k} left {left}")?;
+        out.say(format_args!("ring {k} left {left}\n"));
     }
-    Ok(())
 }
 
-/// Prints how many buffers of each pool are free.
-fn print_pools<O: Write>(pools: &[PoolReport], out: &mut O) -> io::Result<()>
-    ensures { OnOk result (Appends (O.contents out.old) (O.contents out.new) (lines_from spec.pool_line 0 pools.now)) }
+/// Says how many buffers of each pool are free.
+fn say_pools(pools: &[PoolReport], out: &mut Text)
+    ensures { Says out.old out.new (Some (lines_from spec.pool_line 0 pools.now)) }
 {
     for (k, pool) in pools.iter().enumerate() {
-        writeln!(out, "pool {k} free {} of {}", pool.free, pool.count)?;
+        out.say(format_args!("pool {k} free {} of {}\n", pool.free, pool.count));
     }
-    Ok(())
 }
 
-/// Prints a report: a line for each port, each ring and each pool, one for the allocation calls, and one for the node runs that were cut, if there
+/// Says a report: a line for each port, each ring and each pool, one for the allocation calls, and one for the node runs that were cut, if there
 /// are any.
-pub fn print_report<O: Write>(report: &Report, out: &mut O) -> io::Result<()>
-    ensures { OnOk result (Appends (O.contents out.old) (O.contents out.new) (spec.report_text report.now)) }
+#[tactic(auto, using(crate::proofs::Lines::says_both))]
+pub fn say_report(report: &Report, out: &mut Text)
+    ensures { Says out.old out.new (Some (spec.report_text report.now)) }
 {
-    print_ports(report.ports.as_slice(), out)?;
-    print_rings(report.rings.as_slice(), out)?;
-    print_pools(report.pools.as_slice(), out)?;
-    writeln!(out, "calls {} refused {}", report.calls, report.refused)?;
+    say_ports(report.ports.as_slice(), out);
+    say_rings(report.rings.as_slice(), out);
+    say_pools(report.pools.as_slice(), out);
+    out.say(format_args!("calls {} refused {}\n", report.calls, report.refused));
     if report.cut > 0 {
-        writeln!(out, "cut {}", report.cut)?;
+        out.say(format_args!("cut {}\n", report.cut));
     }
-    Ok(())
 }
 
 /// The records of a port that a run processed: those received, and those dropped before.

@@ -1,6 +1,6 @@
 //! The source of a program, line by line, with the instruction of each line.
 
-use dp_lang::{Program, SourceLine as Words, arguments_of};
+use dp_lang::{AsmError, Program, SourceLine as Words, arguments_of, source_lines};
 use dp_model::{Entry, Instr};
 use std::alloc::{AllocError, Global};
 
@@ -52,12 +52,25 @@ pub struct SourceLine<'a> {
     pub step: Option<Step>,
 }
 
+/// The text of a node's program.
+#[derive(Clone, Copy)]
+pub struct ProgramText<'a> {
+    /// The port or ring that runs it.
+    pub node: Entry,
+    /// The name of its file.
+    pub name: &'a str,
+    /// The contents of the file; for a document they must be UTF-8.
+    pub text: &'a [u8],
+}
+
 /// A node of a pipeline with the source of its program.
 #[derive(Drop)]
 pub struct NodeSource<'a> {
     pub node: Entry,
     /// The name of the file.
     pub name: &'a str,
+    /// The name of the file that `dpv build` wrote the program from, if it did.
+    pub built: Option<&'a str>,
     pub lines: Vec<SourceLine<'a>>,
     /// The instructions of its program.
     pub instrs: Vec<Instr>,
@@ -69,33 +82,61 @@ pub(crate) fn words_of(line: &[u8]) -> Words<'_> {
     Words { number: 0, text }
 }
 
-/// The instruction in the line of this number, from 1; `places` has the line of each instruction.
-fn step_at(instrs: &[Instr], places: &[usize], number: usize) -> Option<Step> {
-    for (label, place) in places.iter().enumerate() {
-        if *place == number {
-            let role = Role::of(instrs.get(label)?);
-            return Some(Step { label, role });
-        }
-    }
-    None
-}
-
 /// The lines of a program's text; `places` has the line of each instruction, from 1.
-///
-/// # Errors
-///
-/// `AllocError` if an allocation was refused.
-pub fn lines_of<'a>(
+fn lines_of<'a>(
     alloc: Global,
     text: &'a [u8],
-    program: &Program,
+    instrs: &[Instr],
     places: &[usize],
 ) -> Result<Vec<SourceLine<'a>>, AllocError> {
-    let mut lines = Vec::new(alloc);
+    let (mut lines, mut label) = (Vec::new(alloc), 0usize);
     let text = text.strip_suffix(b"\n").unwrap_or(text);
     for (k, text) in text.split(|byte| *byte == b'\n').enumerate() {
-        let step = step_at(program.instrs(), places, k.saturating_add(1));
+        let mut step = None;
+        if let (Some(place), Some(instr)) = (places.get(label), instrs.get(label))
+            && *place == k.saturating_add(1)
+        {
+            let role = Role::of(instr);
+            step = Some(Step { label, role });
+            label = label.saturating_add(1);
+        }
         lines.push(SourceLine { text, step })?;
     }
     Ok(lines)
+}
+
+/// The name of the file that a program was built from, if `dpv build` wrote it, as its first line says.
+fn built_from(text: &[u8]) -> Option<&str> {
+    let first = text.split(|byte| *byte == b'\n').next()?;
+    let words = words_of(first).comment()?.strip_prefix("Built from ")?;
+    let (name, _rest) = words.split_once(" by `dpv build`")?;
+    Some(name)
+}
+
+impl<'a> NodeSource<'a> {
+    /// A program line by line, each line with its instruction.
+    ///
+    /// # Errors
+    ///
+    /// `AllocError` if an allocation was refused.
+    pub fn of(
+        alloc: Global,
+        own: &Program,
+        program: ProgramText<'a>,
+    ) -> Result<NodeSource<'a>, AllocError> {
+        let ProgramText { node, name, text } = program;
+        let places = match source_lines(alloc, text) {
+            Ok(places) => places,
+            Err(AsmError::Memory) => return Err(AllocError),
+            Err(AsmError::Fault(_)) => Vec::new(alloc),
+        };
+        let (instrs, built) = (own.instrs(), built_from(text));
+        Ok(NodeSource {
+            node,
+            name,
+            built,
+            lines: lines_of(alloc, text, instrs, places.as_slice())?,
+            instrs: Vec::from_slice(alloc, instrs)?,
+        })
+    }
 }

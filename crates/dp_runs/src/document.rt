@@ -3,13 +3,12 @@
 use crate::reply::{Printing, StopText, printed_of, status_of};
 use crate::run::Ran;
 use dp_console::{Document, Item, Text};
-use dp_counts::{Counting, CountsDocument, lines_counted, source_name};
+use dp_counts::write_numbers;
 use dp_engine::{InputState, Report};
-use dp_load::NodeName;
 use dp_pipe::RunFault;
 use std::alloc::{AllocError, Global};
 
-/// Writes the fault at which a run stopped, or that it did not.
+/// Adds the fault at which a run stopped, or that it did not.
 fn write_fault(answer: &Result<Report, RunFault>, to: &mut Document) {
     match answer {
         Ok(_) => to.item("fault", Item::Null),
@@ -22,7 +21,7 @@ fn write_fault(answer: &Result<Report, RunFault>, to: &mut Document) {
     }
 }
 
-/// Writes the numbers of the ports.
+/// Adds the numbers of the ports.
 fn write_ports(report: &Report, full: [u64; 8], truncated: [u64; 8], to: &mut Document) {
     to.begin_list("ports");
     let beside = full.into_iter().zip(truncated);
@@ -48,56 +47,27 @@ fn write_ports(report: &Report, full: [u64; 8], truncated: [u64; 8], to: &mut Do
     to.end_list();
 }
 
-/// Writes the numbers of the rings.
+/// Adds the numbers of the rings.
 fn write_rings(report: &Report, full: [u64; 8], to: &mut Document) {
     to.begin_list("rings");
     for (k, (left, full)) in report.rings.as_slice().iter().zip(full).enumerate() {
-        let ring = Item::Number(k as u64);
-        let (full, left) = (Item::Number(full), Item::Number(*left));
-        to.object("", &[("full", full), ("left", left), ("ring", ring)]);
+        write_numbers(&[("full", full), ("left", *left), ("ring", k as u64)], to);
     }
     to.end_list();
 }
 
-/// Writes the numbers of the pools.
+/// Adds the numbers of the pools.
 fn write_pools(report: &Report, refused: [u64; 8], to: &mut Document) {
     to.begin_list("pools");
     for (k, (pool, refused)) in report.pools.as_slice().iter().zip(refused).enumerate() {
-        let members = [
-            ("count", Item::Number(pool.count)),
-            ("free", Item::Number(pool.free)),
-            ("pool", Item::Number(k as u64)),
-            ("refused", Item::Number(refused)),
-        ];
-        to.object("", &members);
+        let (count, free) = (("count", pool.count), ("free", pool.free));
+        write_numbers(&[count, free, ("pool", k as u64), ("refused", refused)], to);
     }
     to.end_list();
-}
-
-/// Writes the counts by the lines of the sources.
-fn write_lines(
-    alloc: Global,
-    counting: &Counting<'_>,
-    to: &mut Document,
-) -> Result<(), AllocError> {
-    to.begin_list("lines");
-    for source in counting.sources.as_slice() {
-        to.begin_object("");
-        to.item("file", Item::Text(source_name(source)));
-        to.begin_list("lines");
-        for line in lines_counted(alloc, &counting.counts, source)?.as_slice() {
-            line.write("", to);
-        }
-        to.end_list();
-        to.shown("node", NodeName(source.node));
-        to.end_object();
-    }
-    to.end_list();
-    Ok(())
 }
 
 impl Printing<'_, '_> {
-    /// Writes the members of a run. What is not wanted has no member, and a run that ran out of memory has the fault alone.
+    /// Adds the members of a run. What is not wanted has no member, and a run that ran out of memory has the fault alone.
     fn write(&self, alloc: Global, ran: &Ran, to: &mut Document) -> Result<(), AllocError> {
         let (answer, wanted) = (&ran.flushed.answer, self.wanted);
         let Some(report) = printed_of(answer) else {
@@ -108,35 +78,21 @@ impl Printing<'_, '_> {
         if let Some(counting) = self.counting
             && wanted.counts
         {
-            let (counts, sources) = (&counting.counts, counting.sources.as_slice());
-            let document = CountsDocument {
-                counts,
-                env: self.env,
-                sources,
-            };
-            document.write("counts", to);
+            counting.write(self.env, to);
         }
         to.item("cut", Item::Number(report.cut));
         if let Some(counting) = self.counting
             && wanted.drops
         {
-            to.begin_list("drops");
-            for place in counting.drops(alloc, report)?.as_slice() {
-                place.write("", to);
-            }
-            to.end_list();
+            counting.write_drops(alloc, report, to)?;
         }
         write_fault(answer, to);
         if let Some(counting) = self.counting {
             if wanted.lines {
-                write_lines(alloc, counting, to)?;
+                counting.write_lines(alloc, to)?;
             }
             if wanted.counts || wanted.lines {
-                to.begin_list("named");
-                for own in counting.named(alloc)?.as_slice() {
-                    own.write("", to);
-                }
-                to.end_list();
+                counting.write_named(alloc, to)?;
             }
         }
         let truncated = self.notes.map_or([0; 8], |notes| notes.truncated);

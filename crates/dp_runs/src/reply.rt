@@ -8,15 +8,11 @@ ghost use Rattle.dp_runs.specs.Replies.{Reads};
 use crate::run::Ran;
 use dp_captures::CaptureProblem;
 use dp_console::{DONE, FAULT, MEMORY, Reply, Text};
-use dp_counts::{
-    Counting, Notes, Totals, Wanted, print_report, say_lines, say_place, say_refusals,
-    write_listing,
-};
+use dp_counts::{Counting, Notes, Totals, Wanted, say_refusals, say_report};
 use dp_engine::Report;
-use dp_load::NodeName;
 use dp_model::Env;
 use dp_pipe::{RunCause, RunFault};
-use std::alloc::{AllocError, Global};
+use std::alloc::Global;
 use std::fmt;
 
 /// What is said of a run.
@@ -143,37 +139,31 @@ impl Printing<'_, '_> {
         }
         let mut text = Text::new(alloc);
         if let Some(report) = printed_of(&ran.flushed.answer) {
-            text.has_failed = print_report(report, &mut text.bytes).is_err();
+            say_report(report, &mut text);
         }
         text
     }
 
     /// Says the counts of a run that are wanted, if there is a report.
-    fn say_counts(&self, alloc: Global, ran: &Ran, out: &mut Text) -> Result<(), AllocError> {
+    fn say_counts(&self, alloc: Global, ran: &Ran, out: &mut Text) {
         let (wanted, report) = (self.wanted, printed_of(&ran.flushed.answer));
         let (Some(counting), Some(report)) = (self.counting, report) else {
-            return Ok(());
+            return;
         };
         if wanted.counts {
-            out.has_failed = write_listing(counting, self.env, &mut out.bytes).is_err();
+            counting.say(self.env, out);
             say_refusals("port", "full", ran.refusals.lists, out);
             say_refusals("pool", "refused", ran.refusals.pools, out);
         }
         if wanted.lines {
-            say_lines(alloc, counting, out)?;
+            counting.say_lines(alloc, out);
         }
         if wanted.counts || wanted.lines {
-            for own in counting.named(alloc)?.as_slice() {
-                let (node, name, packets) = (NodeName(own.node), own.name, own.packets);
-                out.say(format_args!("{node} count {name} {packets}\n"));
-            }
+            counting.say_named(alloc, out);
         }
         if wanted.drops {
-            for place in counting.drops(alloc, report)?.as_slice() {
-                say_place(place, out);
-            }
+            counting.say_drops(alloc, report, out);
         }
-        Ok(())
     }
 
     /// How many records of each port a run processed, what is wrong with a capture, the counts, and what was lost, as far as that is said as text.
@@ -190,8 +180,8 @@ impl Printing<'_, '_> {
         if let Some(found) = self.problem {
             say_problem(found, &mut problem);
         }
-        if !self.is_json && self.say_counts(alloc, ran, &mut counts).is_err() {
-            counts.has_failed = true;
+        if !self.is_json {
+            self.say_counts(alloc, ran, &mut counts);
         }
         if let Some(known) = self.notes {
             known.say(report, ran.refusals, self.env, &mut notes);

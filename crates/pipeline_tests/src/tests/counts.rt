@@ -7,11 +7,11 @@ use Content::Text;
 use arrayvec::ArrayVec;
 use dp_console::{Document, Text as Said};
 use dp_counts::{
-    Counting, Counts, CountsDocument, CountsError, DropCause, DropPlace, LineCounts, NodeSource,
-    Origin, ReadCount, Total, counts_of, lines_counted, lines_of, total_of,
+    Counting, Counts, CountsError, DropPlace, LineCounts, NodeSource, Origin, ProgramText,
+    ReadCount, Total, counts_of, total_of,
 };
 use dp_engine::{InputState, PortReport, Report};
-use dp_lang::{assemble, source_lines};
+use dp_lang::assemble;
 use dp_model::{Entry, Env};
 use dp_runs::Watcher;
 use std::alloc::{AllocError, Global};
@@ -38,7 +38,7 @@ static TOTALS: &[(Total, u64)] = &[
 
 /// The document of the counts, in pieces.
 const DOCUMENT: &[&str] = &[
-    r#"{"nodes":[{"file":"port.dpv","instructions":["#,
+    r#""counts":{"nodes":[{"file":"port.dpv","instructions":["#,
     r#"{"comment":null,"cut":0,"ends":null,"label":0,"ran":3,"taken":1,"text":"iflen p0,4,drop"},"#,
     r#"{"comment":null,"cut":0,"ends":null,"label":1,"ran":2,"taken":null,"text":"load r1,p0,0,4"},"#,
     r#"{"comment":"the hop","cut":0,"ends":null,"label":2,"ran":2,"taken":1,"text":"lookup r2,0,r1,drop"},"#,
@@ -71,7 +71,7 @@ enum Answer {
 /// What is around a document in that of a run, the node whose counts are read, and what is read.
 static READ: &[(&str, &str, &str, Answer)] = &[
     (
-        r#"{"counts":"#,
+        "{",
         "}",
         "port 0",
         Counted(
@@ -94,8 +94,8 @@ static READ: &[(&str, &str, &str, Answer)] = &[
             ],
         ),
     ),
-    (r#"{"counts":"#, "}", "ring 1", NoNode),
-    ("", "", "port 0", Missing("counts")),
+    ("{", "}", "ring 1", NoNode),
+    (r#"{"named":{"#, "}}", "port 0", Missing("counts")),
 ];
 
 /// The lines of the port's program from which control came to a `free`, from 1, and how many packets it freed. 0 stands for a record that got no
@@ -174,13 +174,8 @@ fn first_total(counting: &Counting<'static>) -> Option<usize> {
 
 // Whether the counts have that document.
 fn has_document(alloc: Global, env: &Env, counting: &Counting<'static>) -> Result<bool, Fail> {
-    let counts = CountsDocument {
-        counts: &counting.counts,
-        env,
-        sources: counting.sources.as_slice(),
-    };
     let (mut document, mut text) = (Document::new(alloc), Said::new(alloc));
-    counts.write("", &mut document);
+    counting.write(env, &mut document);
     document.say_to(&mut text);
     let want = text_of(alloc, &Text(DOCUMENT))?;
     Ok(text.bytes.as_slice().strip_suffix(b"\n") == Some(want.as_bytes()))
@@ -188,28 +183,23 @@ fn has_document(alloc: Global, env: &Env, counting: &Counting<'static>) -> Resul
 
 // Whether these counts of instructions are among those that are read.
 fn are_read(read: &[ReadCount], want: &[(usize, ReadCount)]) -> bool {
-    want.iter().all(|(k, count)| read.get(*k) == Some(count))
+    for (k, count) in want {
+        let found = read.get(*k).map(|found| (found.ran, found.taken));
+        if found != Some((count.ran, count.taken)) {
+            return false;
+        }
+    }
+    true
 }
 
 fn is_read(read: Result<Vec<ReadCount>, CountsError>, want: &Answer) -> bool {
-    match read {
-        Ok(read) => match want {
-            Counted(number, some) => read.len() == *number && are_read(read.as_slice(), some),
-            NoNode | Missing(_) => false,
-        },
-        Err(error) => match want {
-            Counted(..) => false,
-            NoNode => error == CountsError::NoNode,
-            Missing(name) => {
-                error
-                    == CountsError::BadMember {
-                        node: None,
-                        instruction: None,
-                        name,
-                        wanted: "an object",
-                    }
-            }
-        },
+    match (read, want) {
+        (Ok(read), Counted(number, some)) => read.len() == *number
+            && are_read(read.as_slice(), some),
+        (Err(CountsError::NoNode), NoNode) => true,
+        (Err(CountsError::BadMember(None, None, (name, "an object"))), Missing(want)) => name
+            == *want,
+        _ => false,
     }
 }
 
@@ -248,9 +238,9 @@ fn report_of() -> Report {
 
 // The line from which control came to where packets ended, and how many did.
 fn ended_at(place: &DropPlace<'_>) -> (usize, u64) {
-    match place.cause {
-        DropCause::Freed(origin) => (origin.line.unwrap_or(0), place.packets),
-        _ => (0, place.packets),
+    match place.origin {
+        Some(origin) => (origin.line.unwrap_or(0), place.packets),
+        None => (0, place.packets),
     }
 }
 
@@ -280,7 +270,7 @@ fn has_lines(alloc: Global, counting: &Counting<'static>) -> Result<bool, Fail> 
     let Some(source) = counting.sources.as_slice().first() else {
         return Ok(false);
     };
-    let lines = lines_counted(alloc, &counting.counts, source)?;
+    let lines = source.lines_counted(alloc, &counting.counts)?;
     Ok(are_lines(lines.as_slice()))
 }
 
@@ -300,14 +290,13 @@ fn are_built(lines: &[LineCounts<'_>]) -> bool {
 // Whether a built program is counted by the lines that it is built from.
 fn is_built(alloc: Global) -> Result<bool, Fail> {
     let program = assemble(alloc, BUILT.as_bytes())?;
-    let places = source_lines(alloc, BUILT.as_bytes())?;
-    let source = NodeSource {
+    let text = ProgramText {
         node: Entry::Port(0),
         name: "a.dpv",
-        lines: lines_of(alloc, BUILT.as_bytes(), &program, places.as_slice())?,
-        instrs: Vec::from_slice(alloc, program.instrs())?,
+        text: BUILT.as_bytes(),
     };
-    let lines = lines_counted(alloc, &Counts::new(alloc)?, &source)?;
+    let source = NodeSource::of(alloc, &program, text)?;
+    let lines = source.lines_counted(alloc, &Counts::new(alloc)?)?;
     Ok(are_built(lines.as_slice()))
 }
 

@@ -1,8 +1,0 @@
--- The lines so far were printed.
-use Rattle.std.proofs.Common.{take}
-use Rattle.std.specs.Io.KnownBytes.{Appends}
-use Rattle.dp_counts.specs.Totals.{pool_lines}
-use Rattle.dp_counts.proofs.listing.print_pools.Given as goal
-
-abbrev pub invariant-loop-k : goal.invariant-loop-k
-invariant-loop-k g l = Appends (g.O.Write.contents l.initial.out) (g.O.Write.contents l.out) (pool_lines l.levels (take l.k-counter l.pools))

@@ -1,0 +1,8 @@
+-- The lines so far were said.
+use Rattle.std.proofs.Common.{take, Some}
+use Rattle.dp_console.specs.Replies.{Says}
+use Rattle.dp_counts.specs.Totals.{ring_lines}
+use Rattle.dp_counts.proofs.listing.say_rings.Given as goal
+
+abbrev pub invariant-loop-k : goal.invariant-loop-k
+invariant-loop-k l = Says l.initial.out l.out (Some (ring_lines l.counts l.levels l.sources (take l.k-counter l.rings)))
