@@ -21,14 +21,37 @@ pub struct Origin<'a> {
     pub is_built: bool,
 }
 
+/// Why packets ended without being sent.
+#[derive(Clone, Copy)]
+pub enum DropCause {
+    /// Their records are longer than the port takes.
+    Oversize,
+    /// There were too few free buffers for their records.
+    NoBuffers,
+    /// They were left in the ring at the end of the run.
+    Left,
+    /// A `free` freed them.
+    Freed,
+}
+
+impl DropCause {
+    /// Its word in documents, and its words in texts.
+    pub(crate) fn words(self) -> (&'static str, &'static str) {
+        match self {
+            DropCause::Oversize => ("oversize", "records longer than the port takes\n"),
+            DropCause::NoBuffers => ("nobuf", "records that found too few free buffers\n"),
+            DropCause::Left => ("left", "left in the ring at the end\n"),
+            DropCause::Freed => ("freed", "freed\n"),
+        }
+    }
+}
+
 /// A place where packets ended without being sent.
 #[derive(Clone, Copy)]
 pub struct DropPlace<'a> {
     pub node: Entry,
-    /// Why: `oversize` and `nobuf` for records that are longer than the port takes, or found too few free buffers; `left` for packets in the ring at the
-    /// end of the run; and `freed` for those that a `free` freed.
-    pub why: &'a str,
-    /// The line from which control came to the `free`.
+    pub cause: DropCause,
+    /// The line from which control came to the `free`, if one freed them.
     pub origin: Option<Origin<'a>>,
     /// How many.
     pub packets: u64,
@@ -225,13 +248,13 @@ impl<'a> NodeSource<'a> {
 fn push_place<'a>(
     all: &mut Vec<DropPlace<'a>>,
     node: Entry,
-    (why, origin): (&'a str, Option<Origin<'a>>),
+    (cause, origin): (DropCause, Option<Origin<'a>>),
     packets: u64,
 ) -> Result<(), AllocError> {
     if packets > 0 {
         all.push(DropPlace {
             node,
-            why,
+            cause,
             origin,
             packets,
         })?;
@@ -243,11 +266,21 @@ fn push_place<'a>(
 fn reported<'a>(alloc: Global, report: &Report) -> Result<Vec<DropPlace<'a>>, AllocError> {
     let mut all = Vec::new(alloc);
     for (k, port) in (0..8u8).zip(report.ports.as_slice()) {
-        push_place(&mut all, Entry::Port(k), ("oversize", None), port.oversize)?;
-        push_place(&mut all, Entry::Port(k), ("nobuf", None), port.nobuf)?;
+        push_place(
+            &mut all,
+            Entry::Port(k),
+            (DropCause::Oversize, None),
+            port.oversize,
+        )?;
+        push_place(
+            &mut all,
+            Entry::Port(k),
+            (DropCause::NoBuffers, None),
+            port.nobuf,
+        )?;
     }
     for (k, left) in (0..8u8).zip(report.rings.as_slice()) {
-        push_place(&mut all, Entry::Ring(k), ("left", None), *left)?;
+        push_place(&mut all, Entry::Ring(k), (DropCause::Left, None), *left)?;
     }
     Ok(all)
 }
@@ -263,7 +296,7 @@ impl<'a> Counting<'a> {
         let mut places = reported(alloc, report)?;
         for source in self.sources.as_slice() {
             for line in source.lines_counted(alloc, &self.counts)?.as_slice() {
-                let cause = ("freed", Some(line.origin));
+                let cause = (DropCause::Freed, Some(line.origin));
                 push_place(&mut places, source.node, cause, line.dropped)?;
             }
         }

@@ -76,11 +76,8 @@ fn say_place(place: &DropPlace<'_>, out: &mut Text) {
     if let Some(origin) = place.origin {
         return say_origin(origin, "", out);
     }
-    out.say(match place.why {
-        "oversize" => "records longer than the port takes\n",
-        "nobuf" => "records that found too few free buffers\n",
-        _ => "left in the ring at the end\n",
-    });
+    let (_word, words) = place.cause.words();
+    out.say(words);
 }
 
 /// Says how often each list was full, or each pool refused its buffers, if it was.

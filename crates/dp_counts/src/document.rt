@@ -52,7 +52,8 @@ fn write_place(place: &DropPlace<'_>, to: &mut Document) {
     to.items(&[("comment", comment), ("file", file), ("line", line)]);
     to.shown("node", NodeName(place.node));
     to.item("packets", Item::Number(place.packets));
-    to.items(&[("text", text), ("why", Item::Text(place.why))]);
+    let (word, _words) = place.cause.words();
+    to.items(&[("text", text), ("why", Item::Text(word))]);
     to.end_object();
 }
 

@@ -28,7 +28,7 @@ mod reader;
 mod report;
 mod source;
 
-pub use by_line::{DropPlace, LineCounts, NamedCount, Origin};
+pub use by_line::{DropCause, DropPlace, LineCounts, NamedCount, Origin};
 pub use counting::{Counting, Wanted, say_refusals};
 pub use counts::{Counts, StepCounts};
 pub use document::write_numbers;
