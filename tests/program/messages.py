@@ -159,6 +159,9 @@ def links() -> Iterator[Case]:
     checksums = "the link type is 1 ETHERNET with 9216 in the upper 16 bits, and not 1 ETHERNET alone"
     cure = "  help: remove the checksums at the ends of the frames: editcap -F pcap -T ether -L -C -4 IN OUT\n"
     yield strips("checksums.pcap", "out", of_input(0, 3, "checksums.pcap", checksums) + cure)._replace(is_whole=True)
+    bits = "the link type is 1 ETHERNET with 1 in the upper 16 bits, and not 1 ETHERNET alone"
+    cure = "  help: capture on an Ethernet interface: these bits do not say that each frame ends with a checksum of 4 bytes\n"
+    yield strips("bits.pcap", "out", of_input(0, 3, "bits.pcap", bits) + cure)._replace(is_whole=True)
     raw = of_input(1, 3, "101.big.pcap", "the link type is 101 RAW, and not 1 ETHERNET") + f"  help: {LINKS[101][1]}\n"
     yield Case(["run", "two_links.toml"], 3, raw, is_whole=True)
     yield Case(["trace", "two_links.toml"], 3, raw, is_whole=True)
@@ -476,6 +479,7 @@ def make_more(folder: pathlib.Path) -> None:
         "none.txt": b"",
         "snapped.pcap": HEADER + struct.pack("<IIII", 1, 2, 4, 60) + b"data",
         "checksums.pcap": header_of("little", 0x2400_0001),
+        "bits.pcap": header_of("little", 0x0001_0001),
     }
     data.update((f"{link}.{order}.pcap", header_of(order, link)) for link in LINKS for order in ("little", "big"))
     for name, (rules, groups, routes) in TABLES.items():

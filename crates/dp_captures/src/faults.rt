@@ -8,55 +8,87 @@ use dp_pcap::PcapError;
 use std::fmt;
 use std::io::Error;
 
-/// How files begin that are no captures, but of which a command makes captures, and the program that unpacks them; a pcapng file is converted.
-static FORMATS: [(&[u8], &str); 6] = [
-    (b"\x0a\x0d\x0d\x0a", ""),
-    (b"\x1f\x8b", "gzip"),
-    (b"BZh", "bzip2"),
-    (b"\xfd7zXZ\0", "xz"),
-    (b"\x28\xb5\x2f\xfd", "zstd"),
-    (b"\x04\x22\x4d\x18", "lz4"),
+/// The format of a file that is no capture, but of which a command makes captures.
+#[derive(Clone, Copy, PartialEq, Eq)]
+pub enum Format {
+    Pcapng,
+    /// It is compressed by the tool with this name.
+    Packed(&'static str),
+}
+
+/// How files of these formats begin.
+static BEGINNINGS: [(&[u8], Format); 6] = [
+    (b"\x0a\x0d\x0d\x0a", Format::Pcapng),
+    (b"\x1f\x8b", Format::Packed("gzip")),
+    (b"BZh", Format::Packed("bzip2")),
+    (b"\xfd7zXZ\0", Format::Packed("xz")),
+    (b"\x28\xb5\x2f\xfd", Format::Packed("zstd")),
+    (b"\x04\x22\x4d\x18", Format::Packed("lz4")),
 ];
 
-/// The format of a file that begins with these bytes: its place among these, if it is one of them.
-pub fn format_of(bytes: &[u8]) -> Option<usize> {
-    for (place, (front, _)) in FORMATS.iter().enumerate() {
+/// The format of a file that begins with these bytes, if it is one of these.
+pub fn format_of(bytes: &[u8]) -> Option<Format> {
+    for (front, format) in &BEGINNINGS {
         if bytes.starts_with(front) {
-            return Some(place);
+            return Some(*format);
         }
     }
     None
 }
 
 /// Writes what a file of this format is, and the command that makes a capture of it.
-fn write_format<W: fmt::Write>(format: usize, f: &mut fmt::Formatter<W>) -> fmt::Result {
-    match FORMATS.get(format) {
-        Some((_, tool)) if !tool.is_empty() => {
-            write!(
-                f,
-                "it is compressed by {tool}; {tool} -dc IN > OUT unpacks it"
-            )
-        }
-        _ => f.write_str("it is a pcapng file; editcap -F pcap IN OUT converts it to a capture"),
+fn write_format<W: fmt::Write>(format: Format, f: &mut fmt::Formatter<W>) -> fmt::Result {
+    match format {
+        Format::Pcapng => f.write_str(PCAPNG),
+        Format::Packed(tool) => write!(
+            f,
+            "it is compressed by {tool}; {tool} -dc IN > OUT unpacks it"
+        ),
     }
 }
 
-/// A link type: its name in the registry after a blank, nothing for types that are not here; and the place of what helps.
-fn described(number: u32) -> (&'static str, u8) {
+const PCAPNG: &str = "it is a pcapng file; editcap -F pcap IN OUT converts it to a capture";
+
+const NO_ETHERNET: &str =
+    "capture on an Ethernet interface: these records have no Ethernet headers";
+
+const CHECKSUMS: &str =
+    "remove the checksums at the ends of the frames: editcap -F pcap -T ether -L -C -4 IN OUT";
+
+const OTHER_BITS: &str =
+    "capture on an Ethernet interface: these bits do not say that each frame ends with a checksum of 4 bytes";
+
+const WIRELESS: &str =
+    "capture on an Ethernet interface, or on a wireless one that is not in monitor mode";
+
+const COOKED: &str =
+    "capture on one Ethernet interface in place of any, or make Ethernet headers of these: editcap -F pcap -T ether -L -C 2 IN OUT";
+
+const COOKED_2: &str = "capture on one Ethernet interface in place of any";
+
+const OTHERS: &str =
+    "if each record really is an Ethernet frame: editcap -F pcap -T ether IN OUT; else capture on an Ethernet interface";
+
+/// The upper half of a header's field of the link type if each frame ends with a checksum of 4 bytes (pcap 2.4: two 16-bit units, and the bit that the
+/// length is given).
+const CHECKSUMS_OF_4: u32 = 0x2400;
+
+/// A link type: its name in the registry after a blank, nothing for types that are not here; and what helps.
+fn described(number: u32) -> (&'static str, &'static str) {
     match number {
-        0 => (" NULL", 0),
-        1 => (" ETHERNET", 1),
-        9 => (" PPP", 0),
-        101 => (" RAW", 0),
-        105 => (" IEEE802_11", 2),
-        108 => (" LOOP", 0),
-        113 => (" LINUX_SLL", 3),
-        127 => (" IEEE802_11_RADIOTAP", 2),
-        147..=162 => (" USER", 5),
-        228 => (" IPV4", 0),
-        229 => (" IPV6", 0),
-        276 => (" LINUX_SLL2", 4),
-        _ => ("", 5),
+        0 => (" NULL", NO_ETHERNET),
+        1 => (" ETHERNET", CHECKSUMS),
+        9 => (" PPP", NO_ETHERNET),
+        101 => (" RAW", NO_ETHERNET),
+        105 => (" IEEE802_11", WIRELESS),
+        108 => (" LOOP", NO_ETHERNET),
+        113 => (" LINUX_SLL", COOKED),
+        127 => (" IEEE802_11_RADIOTAP", WIRELESS),
+        147..=162 => (" USER", OTHERS),
+        228 => (" IPV4", NO_ETHERNET),
+        229 => (" IPV6", NO_ETHERNET),
+        276 => (" LINUX_SLL2", COOKED_2),
+        _ => ("", OTHERS),
     }
 }
 
@@ -89,8 +121,8 @@ pub enum CaptureReason {
     IsStderr,
     /// What is wrong with the capture.
     Capture(PcapError),
-    /// The input has another format, of which a command makes captures: its place in their table.
-    Other(usize),
+    /// The input has another format, of which a command makes captures.
+    Other(Format),
     /// The field of the link type in the input's header, if that is not read.
     Link(u32),
 }
@@ -117,19 +149,10 @@ impl CaptureReason {
         let CaptureReason::Link(link) = self else {
             return None;
         };
-        let cure = match described(link % 65_536).1 {
-            0 => "capture on an Ethernet interface: these records have no Ethernet headers",
-            1 =>
-                "remove the checksums at the ends of the frames: editcap -F pcap -T ether -L -C -4 IN OUT",
-            2 =>
-                "capture on an Ethernet interface, or on a wireless one that is not in monitor mode",
-            3 =>
-                "capture on one Ethernet interface in place of any, or make Ethernet headers of these: editcap -F pcap -T ether -L -C 2 IN OUT",
-            4 => "capture on one Ethernet interface in place of any",
-            _ =>
-                "if each record really is an Ethernet frame: editcap -F pcap -T ether IN OUT; else capture on an Ethernet interface",
-        };
-        Some(cure)
+        match (link % 65_536, link / 65_536) {
+            (1, upper) if upper != CHECKSUMS_OF_4 => Some(OTHER_BITS),
+            (number, _) => Some(described(number).1),
+        }
     }
 }
 

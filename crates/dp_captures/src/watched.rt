@@ -2,7 +2,7 @@
 
 ghost use Rattle.std.specs.Prelude.{◌≡◌, ◌∷◌, []};
 
-use crate::faults::format_of;
+use crate::faults::{Format, format_of};
 use dp_pcap::{Feed, OfBufReader, Offers, WholeRecords, link_type};
 use std::io::{Error, ErrorKind, Read, Result, Stderr, Write};
 
@@ -47,8 +47,8 @@ impl Progress {
 pub struct Seen {
     /// The error with which its last read failed.
     pub failure: Option<Error>,
-    /// The format as which it begins, if a command makes captures of that: its place in their table.
-    pub format: Option<usize>,
+    /// The format as which it begins, if a command makes captures of that.
+    pub format: Option<Format>,
     /// The field of the link type in its header, if the first read has the whole header of a capture.
     pub link: Option<u32>,
 }

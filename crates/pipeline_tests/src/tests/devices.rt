@@ -1,6 +1,6 @@
 //! What is seen of a reader and kept of a writer, and a device that fails.
 
-use dp_captures::{Guarded, Progress, Watched};
+use dp_captures::{Format, Guarded, Progress, Watched};
 use std::io::{Error, Read, Result, Write};
 
 /// The errors of a disk that is full and of a device that cannot be read.
@@ -48,16 +48,16 @@ const COOKED: &[u8] = b"\xd4\xc3\xb2\xa1\x02\0\x04\0\0\0\0\0\0\0\0\0\0\0\x04\0\x
 
 const COOKED_BIG: &[u8] = b"\xa1\xb2\xc3\xd4\0\x02\0\x04\0\0\0\0\0\0\0\0\0\x04\0\0\0\0\0\x71";
 
-/// Front bytes of captures, with the place of the other format that they begin, and the link type.
-static FRONTS: &[(&[u8], Option<usize>, Option<u32>)] = &[
-    (b"\x0a\x0d\x0d\x0a\x1c\0", Some(0), None),
+/// Front bytes of captures, with the other format that they begin, and the link type.
+static FRONTS: &[(&[u8], Option<Format>, Option<u32>)] = &[
+    (b"\x0a\x0d\x0d\x0a\x1c\0", Some(Format::Pcapng), None),
     (b"\x0a\x0d\x0d", None, None),
-    (b"\x1f\x8b\x08", Some(1), None),
-    (b"BZh9", Some(2), None),
-    (b"\xfd7zXZ\0\0", Some(3), None),
+    (b"\x1f\x8b\x08", Some(Format::Packed("gzip")), None),
+    (b"BZh9", Some(Format::Packed("bzip2")), None),
+    (b"\xfd7zXZ\0\0", Some(Format::Packed("xz")), None),
     (b"\xfd7zXZ", None, None),
-    (b"\x28\xb5\x2f\xfd", Some(4), None),
-    (b"\x04\x22\x4d\x18", Some(5), None),
+    (b"\x28\xb5\x2f\xfd", Some(Format::Packed("zstd")), None),
+    (b"\x04\x22\x4d\x18", Some(Format::Packed("lz4")), None),
     (b"\xd4\xc3\xb2\xa1\x0a\x0d", None, None),
     (b"", None, None),
     (COOKED, None, Some(113)),
@@ -66,7 +66,7 @@ static FRONTS: &[(&[u8], Option<usize>, Option<u32>)] = &[
 
 /// What is written to a device that takes two bytes: how many it takes, if it does, and the error that is kept.
 static WRITTEN: &[(&[u8], Option<usize>, Option<i32>)] = &[
-    (b"abc", Some(2), None),
+    (b"abc", Some(Format::Packed("bzip2")), None),
     (b"c", None, Some(FULL)),
     (b"c", None, Some(FULL)),
 ];
@@ -83,7 +83,7 @@ fn read_twice<R: Read + Drop>(reader: &mut R) {
 }
 
 // Whether that is seen of a capture with these bytes in front.
-fn is_seen(front: &'static [u8], format: Option<usize>, link: Option<u32>) -> bool {
+fn is_seen(front: &'static [u8], format: Option<Format>, link: Option<u32>) -> bool {
     let mut reader = Watched::new(front, Progress::new(None, 0), "in.pcap");
     read_twice(&mut reader);
     let seen = reader.seen();

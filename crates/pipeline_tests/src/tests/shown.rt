@@ -106,6 +106,14 @@ static TEXTS: &[(Shown, &str)] = &[
         "remove the checksums at the ends of the frames: editcap -F pcap -T ether -L -C -4 IN OUT",
     ),
     (
+        Link(0x0001_0001),
+        "the link type is 1 ETHERNET with 1 in the upper 16 bits, and not 1 ETHERNET alone",
+    ),
+    (
+        Cure(0x0001_0001),
+        "capture on an Ethernet interface: these bits do not say that each frame ends with a checksum of 4 bytes",
+    ),
+    (
         Sums(&[FOUR, MANY]),
         "progress: port 0: 7 records read in all\nprogress: port 1: 18446744073709551618 records read in all\n",
     ),
