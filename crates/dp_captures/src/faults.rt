@@ -12,18 +12,21 @@ use std::io::Error;
 #[derive(Clone, Copy, PartialEq, Eq)]
 pub enum Format {
     Pcapng,
-    /// It is compressed by the tool with this name.
-    Packed(&'static str),
+    Gzip,
+    Bzip2,
+    Xz,
+    Zstd,
+    Lz4,
 }
 
 /// How files of these formats begin.
 static BEGINNINGS: [(&[u8], Format); 6] = [
     (b"\x0a\x0d\x0d\x0a", Format::Pcapng),
-    (b"\x1f\x8b", Format::Packed("gzip")),
-    (b"BZh", Format::Packed("bzip2")),
-    (b"\xfd7zXZ\0", Format::Packed("xz")),
-    (b"\x28\xb5\x2f\xfd", Format::Packed("zstd")),
-    (b"\x04\x22\x4d\x18", Format::Packed("lz4")),
+    (b"\x1f\x8b", Format::Gzip),
+    (b"BZh", Format::Bzip2),
+    (b"\xfd7zXZ\0", Format::Xz),
+    (b"\x28\xb5\x2f\xfd", Format::Zstd),
+    (b"\x04\x22\x4d\x18", Format::Lz4),
 ];
 
 /// The format of a file that begins with these bytes, if it is one of these.
@@ -38,13 +41,18 @@ pub fn format_of(bytes: &[u8]) -> Option<Format> {
 
 /// Writes what a file of this format is, and the command that makes a capture of it.
 fn write_format<W: fmt::Write>(format: Format, f: &mut fmt::Formatter<W>) -> fmt::Result {
-    match format {
-        Format::Pcapng => f.write_str(PCAPNG),
-        Format::Packed(tool) => write!(
-            f,
-            "it is compressed by {tool}; {tool} -dc IN > OUT unpacks it"
-        ),
-    }
+    let tool = match format {
+        Format::Pcapng => return f.write_str(PCAPNG),
+        Format::Gzip => "gzip",
+        Format::Bzip2 => "bzip2",
+        Format::Xz => "xz",
+        Format::Zstd => "zstd",
+        Format::Lz4 => "lz4",
+    };
+    write!(
+        f,
+        "it is compressed by {tool}; {tool} -dc IN > OUT unpacks it"
+    )
 }
 
 const PCAPNG: &str = "it is a pcapng file; editcap -F pcap IN OUT converts it to a capture";

@@ -52,12 +52,12 @@ const COOKED_BIG: &[u8] = b"\xa1\xb2\xc3\xd4\0\x02\0\x04\0\0\0\0\0\0\0\0\0\x04\0
 static FRONTS: &[(&[u8], Option<Format>, Option<u32>)] = &[
     (b"\x0a\x0d\x0d\x0a\x1c\0", Some(Format::Pcapng), None),
     (b"\x0a\x0d\x0d", None, None),
-    (b"\x1f\x8b\x08", Some(Format::Packed("gzip")), None),
-    (b"BZh9", Some(Format::Packed("bzip2")), None),
-    (b"\xfd7zXZ\0\0", Some(Format::Packed("xz")), None),
+    (b"\x1f\x8b\x08", Some(Format::Gzip), None),
+    (b"BZh9", Some(Format::Bzip2), None),
+    (b"\xfd7zXZ\0\0", Some(Format::Xz), None),
     (b"\xfd7zXZ", None, None),
-    (b"\x28\xb5\x2f\xfd", Some(Format::Packed("zstd")), None),
-    (b"\x04\x22\x4d\x18", Some(Format::Packed("lz4")), None),
+    (b"\x28\xb5\x2f\xfd", Some(Format::Zstd), None),
+    (b"\x04\x22\x4d\x18", Some(Format::Lz4), None),
     (b"\xd4\xc3\xb2\xa1\x0a\x0d", None, None),
     (b"", None, None),
     (COOKED, None, Some(113)),
@@ -66,7 +66,7 @@ static FRONTS: &[(&[u8], Option<Format>, Option<u32>)] = &[
 
 /// What is written to a device that takes two bytes: how many it takes, if it does, and the error that is kept.
 static WRITTEN: &[(&[u8], Option<usize>, Option<i32>)] = &[
-    (b"abc", Some(Format::Packed("bzip2")), None),
+    (b"abc", Some(Format::Bzip2), None),
     (b"c", None, Some(FULL)),
     (b"c", None, Some(FULL)),
 ];
