@@ -47,19 +47,11 @@ fn say_greatest(out: &mut Text, first: usize, last: usize, greatest: u64) {
     }
 }
 
-/// All that a row says, with a mark between two registers: `p0 sole, headroom 128, at most 1 segment; r0-r7 <= 0`; or, after a `+`, what it says that
-/// the row before does not, if there is one that is reached. Registers of which nothing is known are left out, and those of which equal greatest
-/// values are known stand together, as in `r0 <= 5`, `r1-r7 <= 0` or `r2 any`.
-pub fn row_text(alloc: Global, row: &Row, before: Option<&Row>, next: &str) -> Text {
+/// Says what a row says that another one does not, with marks before the first phrase and between two. Registers of which equal greatest values are
+/// known stand together, as in `r0 <= 5`, `r1-r7 <= 0` or `r2 any`.
+fn changes(alloc: Global, row: &Row, before: &Row, first: &str, next: &str) -> Text {
     let mut out = Text::new(alloc);
-    if !row.live {
-        out.say("never reached");
-        return out;
-    }
-    let (before, mut mark, none) = match before {
-        Some(before) if before.live => (*before, "+ ", "as before"),
-        _ => (UNKNOWN, "", "nothing known"),
-    };
+    let mut mark = first;
     for k in 0..8 {
         if row.facts[k] != before.facts[k] {
             out.say(mark);
@@ -70,8 +62,8 @@ pub fn row_text(alloc: Global, row: &Row, before: Option<&Row>, next: &str) -> T
     }
     let mut begin = 0;
     for k in 0..8 {
-        let greatest = changed(row, &before, k);
-        if greatest.is_some() && changed(row, &before, k + 1) == greatest {
+        let greatest = changed(row, before, k);
+        if greatest.is_some() && changed(row, before, k + 1) == greatest {
             continue;
         }
         if let Some(greatest) = greatest {
@@ -81,6 +73,21 @@ pub fn row_text(alloc: Global, row: &Row, before: Option<&Row>, next: &str) -> T
         }
         begin = k + 1;
     }
+    out
+}
+
+/// All that a row says, with a mark between two registers: `p0 sole, headroom 128, at most 1 segment; r0-r7 <= 0`; or, after a `+`, what it says that
+/// the row before does not, if there is one that is reached. Registers of which nothing is known are left out.
+pub fn row_text(alloc: Global, row: &Row, before: Option<&Row>, next: &str) -> Text {
+    if !row.live {
+        let mut out = Text::new(alloc);
+        out.say("never reached");
+        return out;
+    }
+    let (mut out, none) = match before {
+        Some(before) if before.live => (changes(alloc, row, before, "+ ", next), "as before"),
+        _ => (changes(alloc, row, &UNKNOWN, "", next), "nothing known"),
+    };
     if out.bytes.is_empty() {
         out.say(none);
     }

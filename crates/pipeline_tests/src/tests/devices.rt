@@ -66,7 +66,7 @@ static FRONTS: &[(&[u8], Option<Format>, Option<u32>)] = &[
 
 /// What is written to a device that takes two bytes: how many it takes, if it does, and the error that is kept.
 static WRITTEN: &[(&[u8], Option<usize>, Option<i32>)] = &[
-    (b"abc", Some(Format::Bzip2), None),
+    (b"abc", Some(2), None),
     (b"c", None, Some(FULL)),
     (b"c", None, Some(FULL)),
 ];
