@@ -104,8 +104,8 @@ STEPS = (
     Step("random", "tests/random/fuzz_pkt.py", "random programs of the language are compiled, inferred, checked and run, and what they send is compared with the interpreter", ON_PROGRAM, share=0.25),
 )
 
-# What `rt ci` prints once a crate is proved.
-PROVED = re.compile(r"rt: (\w+) proved")
+# What `rt ci` prints once a crate is proved, or its proof taken from an earlier run.
+PROVED = re.compile(r"rt: (\w+) (?:proved|is kept: .*)")
 
 # Where Debian's packages put modules, if another Python runs this.
 DEBIAN_PYTHON = pathlib.Path("/usr/lib/python3/dist-packages")
