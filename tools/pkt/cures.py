@@ -118,7 +118,7 @@ NUMBERS = {
 }  # fmt: skip
 MOVED = ("push", "pop", "insert", "remove", "setvalid", "setinvalid", "add", "delete", "strip")
 LENGTHS, ORDERS = ("len", "size", "pkt_len", "frame_len", "packet_length"), ("htons", "ntohs", "htonl", "ntohl", "bpf_htons", "bpf_ntohs")
-ASKED, BEHIND = ("isvalid", "valid", "present", "exists"), ("options", "option", "opts", "payload", "data", "body", "rest")
+ASKED, INSIDE = ("isvalid", "valid", "present", "exists"), ("options", "option", "opts", "payload", "data", "body", "rest")
 
 
 def cure_of(word: str, known: Iterable[str] = (), wanted: str = "", kind: str = "") -> str:
@@ -149,8 +149,8 @@ def field_meant(header: str, word: str, fields: Iterable[str]) -> str:
         return f"{header}.flags & {BITS[header][word.lower()]}"
     if word.lower() in MOVED:
         return f"push {header} {{ .. }} or pop {header}"
-    if word.lower() in BEHIND:
-        return f"header mine {{ a:8 }} after {header} if {header}.{next(iter(fields))} == 5, for what is behind it"
+    if word.lower() in INSIDE:
+        return f"header mine {{ a:8 }} after {header} if {header}.{next(iter(fields))} == 5, for what follows it"
     if word.lower() == "port" and "sport" in fields:
         return f"{header}.sport or {header}.dport"
     others = [name for names, words in FIELDS.items() if word.lower() in words.split() for name in names.split() if name in fields]
