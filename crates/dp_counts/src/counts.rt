@@ -43,6 +43,18 @@ impl Model for Counts {
     ghost invariant = { λ c. HasRoom c.came.items c.taken.items c.ended.items c.cut.items c.place };
 }
 
+// The number of a node: the rings come first, so that a ring's run begins without an addition, then the ports.
+#[inline(always)]
+pub(crate) fn number_of(node: Entry) -> u8
+    requires { IsOneOfEight node }
+    ensures { result < 16 }
+{
+    match node {
+        Entry::Ring(ring) => ring,
+        Entry::Port(port) => MAX_OF_A_KIND as u8 + port,
+    }
+}
+
 // Where the counts of a node begin: those of the ports come first, then those of the rings.
 #[inline(always)]
 pub(crate) fn place_of(node: Entry) -> usize

@@ -1,6 +1,6 @@
 //! Counts what was refused: packets by full transmit lists and full rings, and buffers by pools.
 
-use crate::counts::{is_one_of_eight, place_of};
+use crate::counts::{is_one_of_eight, number_of};
 use dp_engine::{View, Watch, Way};
 use dp_lang::{MAX_INSTRS, Program};
 use dp_model::{Entry, Instr, NumberRegister};
@@ -16,6 +16,18 @@ enum Request {
     Enqueue(u8),
     /// Buffers of this pool.
     Allocate(u8),
+}
+
+impl Request {
+    /// What an instruction asks for.
+    fn of(instr: &Instr) -> Request {
+        match *instr {
+            Instr::Tx { port, .. } => Request::Send(port),
+            Instr::Enq { ring, .. } => Request::Enqueue(ring),
+            Instr::Alloc { pool, .. } | Instr::Clone { pool, .. } => Request::Allocate(pool),
+            _ => Request::None,
+        }
+    }
 }
 
 /// How often each was refused. The numbers wrap at 2^64.
@@ -50,8 +62,8 @@ fn count(numbers: &mut [u64; 8], index: usize) {
 pub struct Losses {
     /// What the instruction at each label of each node asks for.
     requests: Vec<Request>,
-    /// Where those of the running node begin.
-    place: usize,
+    /// The number of the running node.
+    running: u8,
     refusals: Refusals,
 }
 
@@ -64,7 +76,7 @@ impl Losses {
     pub fn new(alloc: Global) -> Result<Losses, AllocError> {
         Ok(Losses {
             requests: Vec::from_elem(alloc, Request::None, 16 * MAX_INSTRS)?,
-            place: 0,
+            running: 0,
             refusals: Refusals::NONE,
         })
     }
@@ -72,17 +84,10 @@ impl Losses {
     /// Adds the program of a node.
     pub fn add(&mut self, node: Entry, program: &Program) {
         if is_one_of_eight(node) {
-            let place = place_of(node);
+            let place = MAX_INSTRS * usize::from(number_of(node));
             for (label, instr) in program.instrs().iter().enumerate() {
                 if let Some(request) = self.requests.get_mut(place + label) {
-                    *request = match *instr {
-                        Instr::Tx { port, .. } => Request::Send(port),
-                        Instr::Enq { ring, .. } => Request::Enqueue(ring),
-                        Instr::Alloc { pool, .. } | Instr::Clone { pool, .. } => {
-                            Request::Allocate(pool)
-                        }
-                        _ => Request::None,
-                    };
+                    *request = Request::of(instr);
                 }
             }
         }
@@ -101,7 +106,7 @@ impl Watch for Losses {
 
     #[inline(always)]
     fn begin(&mut self, node: Entry, _view: View<'_>) {
-        self.place = place_of(node);
+        self.running = number_of(node);
     }
 
     #[inline(always)]
@@ -109,7 +114,7 @@ impl Watch for Losses {
         if matches!(way, Way::On | Way::Out) {
             return;
         }
-        let index = self.place.wrapping_add(usize::from(label));
+        let index = MAX_INSTRS * usize::from(self.running) + usize::from(label);
         match self.requests.get(index) {
             Some(Request::Send(port)) => {
                 let port = view.number(*port);
