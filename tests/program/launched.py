@@ -3,8 +3,9 @@
 
 Usage: tests/program/launched.py [PROGRAM]   (the built program; by default the one that ./dpv builds and runs; some seconds)
 The output may be no file that the compiler reads, under whichever name; the words after -- are operands; a name that the words give is
-kept; wrong words and files that cannot be read are answered as without the launcher; and no temporary file is left, also if a signal ends
-the run. Prints each case that failed, and a count; exits with 1 if one did.
+kept; wrong words and files that cannot be read are answered as without the launcher; a program that wants more than one port and one pool
+is an error with its place; and no temporary file is left, also if a signal ends the run. Prints each case that failed, and a count; exits
+with 1 if one did.
 """
 import os
 import pathlib
@@ -21,6 +22,14 @@ from command import TOP, asked, new_folder, report_cases
 SEND = "send port\n"
 INCLUDES = 'include "net.pkt"\ninclude "empty.pkt"\nsend A\n'
 NET = "const A = 0\n"
+# programs that want more than `dpv filter` gives, by their files
+MORE = {
+    "table.pkt": "include \"net.pkt\"\nlet hop = lookup A ipv4.dst else drop\nsend port\n",
+    "ring.pkt": "if ipv4 {\n  queue 0\n}\nsend port\n",
+    "pool.pkt": "clone copy from 1 else drop\nsend copy to port\nsend port\n",
+    "port.pkt": "ports 2\nif ipv4 { send port }\nsend 1\n",
+    "given.pkt": "given eth\nsend port\n",
+}
 REPORT = "port 0 received 20 nobuf 0 oversize 0 sent 20 input whole\npool 0 free 64 of 64\ncalls 20 refused 0\n"
 # what is read, the output, and the name under which the file is read
 READ = [
@@ -49,6 +58,11 @@ WRONG = [
     (["filter", "none.pkt", "in.pcap", "out.pcap"], 3, "fault: pipeline 5 File port 0\n  file: none.pkt\n"),
     (["filter", "bytes.pkt", "in.pcap", "out.pcap"], 3, "bytes.pkt:1: this line is no UTF-8 text\n  help: save the file as UTF-8\n"),
     (["filter", "wrong.pkt", "in.pcap", "out.pcap"], 1, "wrong.pkt:1:1: "),
+    (["filter", "table.pkt", "in.pcap", "out.pcap"], 1, "table.pkt:2:1: dpv filter has no table\n"),
+    (["filter", "ring.pkt", "in.pcap", "out.pcap"], 1, "ring.pkt:2:3: dpv filter has no ring\n"),
+    (["filter", "pool.pkt", "in.pcap", "out.pcap"], 1, "pool.pkt:1:1: dpv filter has pool 0 alone\n"),
+    (["filter", "port.pkt", "in.pcap", "out.pcap"], 1, "port.pkt:3:1: dpv filter has port 0 alone\n"),
+    (["filter", "given.pkt", "in.pcap", "out.pcap"], 1, "given.pkt:1:7: `given` is for a ring"),
     (["build", "folder.pkt"], 3, "folder.pkt: Is a directory\n"),
     (["build", "none.pkt"], 3, "none.pkt: No such file or directory\n"),
     (["build", "wrong.pkt"], 1, "wrong.pkt:1:1: "),
@@ -66,7 +80,7 @@ class Launched:
         self.script.chmod(0o755)
         shutil.copy(TOP / "examples/nat/in.pcap", folder)
         texts = {"send.pkt": SEND, "-x.pkt": SEND, "my -x.pkt": SEND, "includes.pkt": INCLUDES, "net.pkt": NET, "empty.pkt": "", "wrong.pkt": "sned\n"}
-        for name, text in texts.items():
+        for name, text in (texts | MORE).items():
             (folder / name).write_text(text)
         (folder / "bytes.pkt").write_bytes(b"\xff")
         (folder / "folder.pkt").mkdir()

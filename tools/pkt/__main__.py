@@ -13,6 +13,7 @@ import sys
 sys.path.insert(0, str(pathlib.Path(__file__).resolve().parent.parent))
 
 from pkt.compiler import compiled, error_text, parse  # noqa: E402
+from pkt.filtering import require_filter  # noqa: E402
 from pkt.prove.command import prove_text  # noqa: E402
 from pkt.syntax import SourceError  # noqa: E402
 
@@ -30,6 +31,8 @@ def main() -> int:
     try:
         source = path.read_text(encoding="utf-8")
         text, note = compiled(source, path.name, path.parent)
+        if is_filter:
+            require_filter(parse(source, path.parent))
     except UnicodeDecodeError as error:
         row = error.object.count(b"\n", 0, error.start) + 1
         print(f"{path}:{row}: this line is no UTF-8 text\n  help: save the file as UTF-8", file=sys.stderr)

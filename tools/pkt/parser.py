@@ -89,13 +89,18 @@ class Program:
     has_ports: bool = False
     segments: int = 1
     otherwise: Node | None = None
-    is_for_ring: bool = False
+    given_at: Place | None = None
     is_shared: bool = False
     headroom: int = 128
     length: int = 0
     given: Path = ()
     statements: Block = ()
     rows: list[Row] = field(default_factory=list)
+
+    @property
+    def is_for_ring(self) -> bool:
+        """Whether a ring has it: it says what is given."""
+        return self.given_at is not None
 
 
 def as_side(node: Node) -> Node:
@@ -863,7 +868,8 @@ class Parser(Lexer):
         program.otherwise = it
 
     def declare_given(self, program: Program) -> None:
-        at, program.is_for_ring = self.place(), True
+        at = self.place()
+        program.given_at = program.given_at or at
         require(not self.sees("ports", "segments"), at, f"`given` has no {at.word}", f"{at.word} 4 is a declaration of its own")
         what = at.word if self.sees("shared", "length") or at.word == "headroom" else "a path"
         require(what not in self.given, at, f"`given` has {what} already", "one of each is enough")

@@ -1,0 +1,30 @@
+"""What `dpv filter` gives a program: packets of port 0, of which nothing is known; one port and one pool; no ring and no table."""
+from .compiler import placed
+from .parser import Program
+from .syntax import PORT, Clone, Lookup, Name, New, Node, Number, Send, SourceError, parts
+
+PIPELINE = "a pipeline file may have more ports, pools, rings and tables: `dpv build` makes its node program, and `dpv run` runs it"
+GIVEN = "leave `given` out: then the program tests what it needs"
+
+
+def lacked(it: Node, ports: int) -> str:
+    """What a part of a program wants that there is not, in words; nothing if there is all that it wants."""
+    match it:
+        case Lookup():
+            return "has no table"
+        case Send(port=int()):
+            return "has no ring"
+        case Clone(pool=pool) | New(pool=pool) if pool > 0:
+            return "has pool 0 alone"
+        case Send(port=Node() as port) if ports > 1 and port not in (Name(it.at, PORT), Number(it.at, 0)):
+            return "has port 0 alone"
+    return ""
+
+
+def require_filter(program: Program) -> None:
+    """Raises an error of the source for the first part of a program that wants more than `dpv filter` gives."""
+    error = next((SourceError(it.at, f"dpv filter {lack}", PIPELINE) for it in parts(program.statements) if (lack := lacked(it, program.ports))), None)
+    if program.given_at and (program.given or program.length or program.headroom > 128):
+        error = SourceError(program.given_at, "`given` is for a ring, and dpv filter runs the program for a port", GIVEN)
+    if error:
+        raise placed(error, program.rows)
