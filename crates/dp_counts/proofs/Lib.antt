@@ -2,4 +2,3 @@ pub mod Tallies
 pub mod Flows
 pub mod Lines
 pub mod Runs
-pub mod Turns

@@ -11,9 +11,10 @@ use Rattle.dp_model.specs.declared.env.Entry.TheVariants.{Port, Ring}
 use Rattle.dp_counts.specs.declared.counts.StepCounts.{StepCounts}
 use Rattle.dp_engine.specs.declared.watch.Way.{Way}
 use Rattle.dp_engine.specs.declared.watch.Way.TheVariants.{On, To, Out, Cut}
-use Rattle.dp_engine.specs.Watching.{Event, Began, Ran, IsOneOfEight, SeesAll}
-use Rattle.dp_counts.specs.Counting.{Tally, place_of, counted, with_way, counts_see, any_way, steps_at, after_step, FollowFrom, ran_at, step_counts}
-use Rattle.dp_counts.specs.Counting.{is_one_of_eight, is_jump, is_cut, one_more, IsTally, CountsSteps, BeginsAtZero}
+use Rattle.dp_engine.specs.Watching.{Event, Began, Ran, IsOneOfEight, SeesAll, after_step, FollowFrom}
+use Rattle.dp_engine.proofs.Following.{turns_follow}
+use Rattle.dp_counts.specs.Counting.{Tally, place_of, counted, with_way, counts_see, any_way, steps_at, ran_at, step_counts}
+use Rattle.dp_counts.specs.Counting.{is_one_of_eight, is_jump, is_cut, one_more, IsTally, CountsSteps, BeginsAtZero, CountsTurns}
 use Rattle.dp_counts.proofs.Tallies.{stays, place_within, tally_counted, tally_seen, taken_grew, cut_grew}
 use Rattle.dp_counts.proofs.Flows.{Same, one_if, same, wrapped_same, sum_from, hits, sum_more, hits_next, ran_sums, ran_small, ran_none}
 
@@ -193,3 +194,10 @@ begins_at_zero t none node label = go (nat_lt label 1024 && is_one_of_eight node
     go : (b : Bool) → (if b then counts_at t node label else record { ran = 0; taken = 0; cut = 0 }) ≡ record { ran = 0; taken = 0; cut = 0 }
     go true = zeros
     go false = refl
+
+-- what is shown of a turn is counted
+pub turns_counted : CountsTurns
+turns_counted t t' c nodes port bytes w outcome runs w' all watched =
+    let follows = turns_follow c nodes port bytes w outcome runs watched.answers w' watched.events watched.turn in
+    let (tally, grew) = counts_steps t t' watched.events all follows watched.seen in
+    (watched.answers, watched.events, watched.turn, tally, grew)

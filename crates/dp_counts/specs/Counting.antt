@@ -1,6 +1,6 @@
 -- Counts of node runs, as functions of the events.
 use Rattle.std.specs.Prelude.{◌≡◌, ℕ, zero, suc, ◌+◌, ◌-◌, ◌*◌, ◌%◌, ◌^◌, ◌<◌, ◌≤◌, ◌==◌, ◌&&◌, Bool, true, false, List, [], ◌∷◌}
-use Rattle.std.specs.Prelude.{length, slice_index, slice_set, nat_lt, if◌then◌else◌, Option, Some, None, ⊤}
+use Rattle.std.specs.Prelude.{length, slice_index, slice_set, nat_lt, if◌then◌else◌}
 use Rattle.dp_model.specs.declared.env.Entry.{Entry}
 use Rattle.dp_model.specs.declared.env.Entry.TheVariants.{Port, Ring}
 use Rattle.dp_model.specs.Arithmetic.{wrapped}
@@ -9,7 +9,7 @@ use Rattle.dp_model.specs.Runs.{Outcome, Nodes}
 use Rattle.dp_counts.specs.declared.counts.StepCounts.{StepCounts}
 use Rattle.dp_engine.specs.declared.watch.Way.{Way}
 use Rattle.dp_engine.specs.declared.watch.Way.TheVariants.{On, To, Out, Cut}
-use Rattle.dp_engine.specs.Watching.{Event, Began, Ran, IsOneOfEight, SeesAll, ShowsTurn, WatchesTurn}
+use Rattle.dp_engine.specs.Watching.{Event, Began, Ran, IsOneOfEight, SeesAll, ShowsTurn, WatchesTurn, AreRuns}
 
 -- where the counts of a node begin, one for each of 1,024 labels: those of eight ports come first, then those of eight rings
 abbrev pub place_of : Entry → ℕ
@@ -132,28 +132,6 @@ pub record Grew (node : Entry) (label place : ℕ) (events : List Event) (before
   pub taken : after.taken ≡ wrapped (before.taken + steps_at is_jump (place_of node + label) place events)
   pub cut : after.cut ≡ wrapped (before.cut + steps_at is_cut (place_of node + label) place events)
 
--- ---- node runs
-
--- where control is after a step of the instruction at a label, if the node run is not over
-abbrev pub after_step : ℕ → Way → Option ℕ
-after_step label On = Some (label + 1)
-after_step label (To to) = Some to
-after_step label Out = None
-after_step label Cut = None
-
--- These events are node runs, one after the other, each of them whole: it begins, its first step is at label 0, each further one where the step before
--- led, and its last one ends or cuts it. Control is at this label of a node run before them, or in none.
-abbrev pub FollowFrom : Option ℕ → List Event → Type 0
-FollowFrom None [] = ⊤
-FollowFrom None (Began node s ∷ events) = FollowFrom (Some 0) events
-FollowFrom None (Ran at way s ∷ events) = ⊥
-FollowFrom (Some label) [] = ⊥
-FollowFrom (Some label) (Began node s ∷ events) = ⊥
-FollowFrom (Some label) (Ran at way s ∷ events) = (at ≡ label) × FollowFrom (after_step label way) events
-
-abbrev pub AreRuns : List Event → Type 0
-AreRuns events = FollowFrom None events
-
 -- ---- laws
 
 -- a number of 64 bits for each label
@@ -183,12 +161,6 @@ CountsSteps =
 abbrev pub BeginsAtZero : Type 0
 BeginsAtZero =
     (t : Tally) → HasNone t → (node : Entry) (label : ℕ) → step_counts t node label ≡ record { ran = 0; taken = 0; cut = 0 }
-
--- what a watcher is shown of a turn is whole node runs
-abbrev pub TurnsAreRuns : Type 0
-TurnsAreRuns =
-    (setting : Setting) (nodes : Nodes) (port : ℕ) (bytes : List ℕ) (w : World) (outcome : Outcome) (runs : ℕ) (answers : List Bool) (w' : World)
-    (events : List Event) → ShowsTurn setting nodes port bytes w outcome runs answers w' events → AreRuns events
 
 -- a turn that is shown is counted: each number grows by its steps in the turn
 abbrev pub CountsTurns : Type 0

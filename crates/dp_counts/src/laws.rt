@@ -1,5 +1,5 @@
 //! The laws of counts: functions that do nothing.
-ghost use Rattle.dp_counts.specs.Counting.{BeginsAtZero, CountsSteps, CountsTurns, TurnsAreRuns};
+ghost use Rattle.dp_counts.specs.Counting.{BeginsAtZero, CountsSteps, CountsTurns};
 
 /// A law: after events that are a sequence of whole node runs, each count is its old value plus one for each step that it counts, modulo 2^64.
 pub fn counts_are_of_steps()
@@ -9,11 +9,6 @@ pub fn counts_are_of_steps()
 /// A law: counts that begin are 0 at each label of each node.
 pub fn counts_begin_at_zero()
     ensures { BeginsAtZero }
-{}
-
-/// A law: the events that a watcher is shown of a turn are a sequence of whole node runs.
-pub fn turns_are_runs()
-    ensures { TurnsAreRuns }
 {}
 
 /// A law: over a turn that is shown to `Counts`, each count grows by the steps of that turn that it counts.

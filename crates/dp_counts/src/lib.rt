@@ -32,7 +32,7 @@ pub use by_line::{DropCause, DropPlace, LineCounts, NamedCount, Origin};
 pub use counting::{Counting, Wanted, say_refusals};
 pub use counts::{Counts, StepCounts};
 pub use document::write_numbers;
-pub use laws::{counts_are_of_steps, counts_are_of_turns, counts_begin_at_zero, turns_are_runs};
+pub use laws::{counts_are_of_steps, counts_are_of_turns, counts_begin_at_zero};
 pub use levels::Levels;
 pub use listing::{Total, total_of};
 pub use losses::{Losses, Refusals};

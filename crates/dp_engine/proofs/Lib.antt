@@ -42,3 +42,4 @@ pub mod Retabling
 pub mod Served
 pub mod Turning
 pub mod Batches
+pub mod Following

@@ -65,4 +65,4 @@ pub use needs::need;
 pub use report::{InputState, PoolReport, PortReport, Report};
 pub use rerouting::RouteFault;
 pub use view::{PacketShape, SegmentView, View};
-pub use watch::{Silent, Watch, Way};
+pub use watch::{Silent, Watch, Way, turns_are_runs};

@@ -1,6 +1,7 @@
 //! Where control goes after an instruction, and watchers of node runs.
 ghost use Rattle.std.specs.Prelude.{◌≡◌, ◌+◌, Some, if◌then◌else◌};
 ghost use Rattle.dp_engine.specs.Steps.{label_after, IsOnOrTo};
+ghost use Rattle.dp_engine.specs.Watching.{TurnsAreRuns};
 
 use crate::view::View;
 use dp_model::Entry;
@@ -65,3 +66,8 @@ impl Watch for Silent {
     #[inline(always)]
     fn see(&mut self, _label: u16, _way: Way, _view: View<'_>) {}
 }
+
+/// A law: the events that a watcher is shown of a turn are a sequence of whole node runs.
+pub fn turns_are_runs()
+    ensures { TurnsAreRuns }
+{}

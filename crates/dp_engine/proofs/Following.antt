@@ -10,8 +10,7 @@ use Rattle.dp_model.specs.Safety.{Beginning}
 use Rattle.dp_engine.specs.declared.watch.Way.{Way}
 use Rattle.dp_engine.specs.declared.watch.Way.TheVariants.{On, To, Out, Cut}
 use Rattle.dp_engine.specs.Watching.{Event, Began, Ran, ShowsStep, Passes, ShowsRun, ShowsArrival, ShowsServing, of_ring}
-use Rattle.dp_counts.specs.Counting.{FollowFrom, after_step, TurnsAreRuns, CountsTurns}
-use Rattle.dp_counts.proofs.Runs.{counts_steps}
+use Rattle.dp_engine.specs.Watching.{FollowFrom, after_step, TurnsAreRuns}
 
 -- the end of a node run is no jump
 still_ended : (label : ℕ) (m : Move) → m.next ≡ Ended → (budgeted label m).next ≡ Ended
@@ -91,9 +90,3 @@ turns_follow c nodes port bytes w outcome runs answers w' events t =
     let rest : FollowFrom None t.rest =
     subst (FollowFrom None) (append-nil t.rest) (serving_follows c nodes.rings 32 t.mid t.later t.more w' t.rest [] t.serves tt) in
     subst (FollowFrom None) (sym t.events_are) (arrival_follows c nodes port bytes w outcome t.now t.mid t.first t.rest t.arrives rest)
-
-pub turns_counted : CountsTurns
-turns_counted t t' c nodes port bytes w outcome runs w' all watched =
-    let follows = turns_follow c nodes port bytes w outcome runs watched.answers w' watched.events watched.turn in
-    let (tally, grew) = counts_steps t t' watched.events all follows watched.seen in
-    (watched.answers, watched.events, watched.turn, tally, grew)
