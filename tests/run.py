@@ -9,8 +9,8 @@ GROUP is one of texts, proofs, bodies, program, tools, library and random; by de
 builds; wrong bodies are tried beside it, too, once the libraries below a crate are proved. Scripts run side by side, one for each processor
 and those that take longest first. A line says when one begins; what it prints stands together, at its end. The random cases take N minutes
 of processor time (8), with a seed from the commit; a failure names the command that repeats it, and what a script that failed printed last
-stands at the end, too. There each missing tool is named with what was skipped, and what all took. --list prints the table of
-docs/developing/testing.md.
+stands at the end, too. There each missing tool is named with what was skipped, and what all took. Below the lines of `rt ci` stand the seconds
+of processor time that each crate took. --list prints the table of docs/developing/testing.md.
 """
 import argparse
 import collections
@@ -27,6 +27,7 @@ import signal
 import subprocess
 import sys
 import tempfile
+import threading
 import time
 from collections.abc import Iterator
 
@@ -185,6 +186,49 @@ def begun_early(groups: tuple[str, ...]) -> Iterator[Early | None]:
                 early.end()
 
 
+class Costs:
+    """What each crate takes of processor time in `rt ci`, by a look every second at the provers that work in its folder."""
+
+    def __init__(self) -> None:
+        self.seen: dict[int, tuple[str, float]] = {}
+        self.is_over = threading.Event()
+
+    def look(self) -> None:
+        """Notes what each prover has taken so far."""
+        for it in pathlib.Path("/proc").glob("[0-9]*"):
+            with contextlib.suppress(OSError):
+                folder = pathlib.Path(os.readlink(it / "cwd"))
+                if folder.parent == TOP / "crates" and (it / "comm").read_text() == "rattle\n":
+                    ticks = (it / "stat").read_text().rpartition(")")[2].split()[11:13]
+                    self.seen[int(it.name)] = folder.name, sum(map(int, ticks)) / os.sysconf("SC_CLK_TCK")
+
+    def watch(self) -> None:
+        """Looks until it is over."""
+        while not self.is_over.wait(1):
+            self.look()
+
+    def __str__(self) -> str:
+        sums = collections.Counter[str]()
+        for crate, seconds in self.seen.values():
+            sums[crate] += round(seconds)
+        return ", ".join(f"{crate} {seconds}" for crate, seconds in sums.most_common())
+
+
+@contextlib.contextmanager
+def counted(step: Step) -> Iterator[None]:
+    """Prints at the end what each crate took, if the step proves them."""
+    costs = Costs()
+    watching = threading.Thread(target=costs.watch, daemon=True)
+    if step.script == "rt ci":
+        watching.start()
+    try:
+        yield
+    finally:
+        costs.is_over.set()
+        if costs.seen:
+            print(f"rt ci: seconds of processor time by crate: {costs}", flush=True)
+
+
 def run(step: Step, minutes: float, is_alone: bool, early: Early | None = None) -> Ended:
     """Runs a step. What it prints is printed as it comes, or together at the end where others run beside it."""
     begun, words, rows, last = time.monotonic(), words_of(step, minutes), [], collections.deque(maxlen=LAST)
@@ -216,7 +260,8 @@ def in_turn(steps: list[Step], minutes: float, early: Early | None = None) -> li
     ended: list[Ended] = []
     for step in steps:
         if not any(it.status for it in ended):
-            ended.append(run(step, minutes, True, early))
+            with counted(step):
+                ended.append(run(step, minutes, True, early))
             if early and step.script == "rt ci":
                 early.end()
     return ended
