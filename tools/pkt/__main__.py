@@ -3,7 +3,8 @@
 
 Compiles a program of docs/users/pkt.md to a node program. An error is printed to standard error with its line, and gives status 1; a file that
 cannot be read or written gives status 3.
-With --prove it says whether the program does what its source says, for all packets: proved, different (status 1) or open (status 3)."""
+With --prove it says whether the program does what its source says, for all packets: proved, different (status 1) or open (status 3). It takes
+N seconds of processor time (300) and N rounds of loops (256, which are all) at most, and needs z3 and the repository (else status 70)."""
 import argparse
 import os
 import pathlib
@@ -19,15 +20,16 @@ from pkt.syntax import SourceError  # noqa: E402
 
 
 def main() -> int:
-    if sys.argv[1:] in (["-h"], ["--help"]):
+    words = sys.argv[1:]
+    if words in (["-h"], ["--help"]):
         print(__doc__)
         return 0
-    is_filter = sys.argv[1:2] == ["--filter"] and len(sys.argv) == 5
-    if sys.argv[1:2] != ["--prove"] and not is_filter and len(sys.argv) != 2:
-        print(__doc__.split("\n\n")[0], file=sys.stderr)
+    is_filter, is_proof = words[:1] == ["--filter"] and len(words) == 4, "--prove" in words
+    if not is_filter and not is_proof and len(words) != 1:
+        print(f"{wrong(words)}{__doc__.split(chr(10) * 2)[0]}", file=sys.stderr)
         return 2
-    asked = asked_to_prove(sys.argv[2:]) if sys.argv[1] == "--prove" else None
-    path = pathlib.Path(asked.file if asked else sys.argv[-1])
+    asked = asked_to_prove([word for word in words if word != "--prove"]) if is_proof and not is_filter else None
+    path = pathlib.Path(asked.file if asked else words[-1])
     try:
         source = path.read_text(encoding="utf-8")
         text, note = compiled(source, path.name, path.parent)
@@ -46,9 +48,18 @@ def main() -> int:
         if note:
             print(f"{path}: note: {note}", file=sys.stderr)
         if is_filter:
-            return made(text, source, path, sys.argv[2], sys.argv[3])
+            return made(text, source, path, words[1], words[2])
         return prove_text(source, text, path.parent, asked.rounds, asked.seconds) if asked else written(text)
     return 1
+
+
+def wrong(words: list[str]) -> str:
+    """What is wrong with words that are not one file, as a line."""
+    if not words:
+        return "error: FILE.pkt is missing\n"
+    if words[0].partition("=")[0] in ("--rounds", "--seconds") or words[1].partition("=")[0] in ("--rounds", "--seconds"):
+        return "error: --rounds and --seconds are for --prove\n"
+    return "error: one FILE.pkt is compiled, and printed on standard output\n"
 
 
 def asked_to_prove(words: list[str]) -> argparse.Namespace:
