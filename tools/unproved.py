@@ -5,11 +5,12 @@ Usage: tools/unproved.py FILE
 
 `rt try` runs what it builds, and then removes it. So here it runs on a pipe, which opens at this end once the program reads the other: the
 program is copied, and `rt try` is stopped. Beside a build `rt try` runs a check, which takes as long and only hints at names that a later check
-would refuse: that is stopped as it starts. FILE is then the program, alone in its folder. Exits with 70, and prints what the toolchain said,
-if none was built. `./dpv --unproved` calls it."""
+would refuse: that is stopped as it starts. FILE is then the program, and older ones beside it, which `./dpv --unproved` names by a sum of their
+code, are removed. Exits with 70, and prints what the toolchain said, if none was built. `./dpv --unproved` calls it."""
 import contextlib
 import os
 import pathlib
+import re
 import shutil
 import signal
 import subprocess
@@ -55,8 +56,10 @@ def build(into: pathlib.Path, work: pathlib.Path) -> str | None:
             end = open_pipe(pipe, trying)
             built = next((it for it in work.rglob("program") if it.is_file()), None) if end is not None else None
             if built is not None:
-                shutil.rmtree(into.parent, ignore_errors=True)
-                into.parent.mkdir(parents=True)
+                into.parent.mkdir(parents=True, exist_ok=True)
+                for it in into.parent.iterdir():
+                    if it == into or it.is_file() and re.fullmatch("[0-9a-f]{16}", it.name):
+                        it.unlink()
                 shutil.copy(built, into)
         finally:
             with contextlib.suppress(ProcessLookupError):
@@ -66,7 +69,7 @@ def build(into: pathlib.Path, work: pathlib.Path) -> str | None:
 
 def main() -> int:
     """All of it."""
-    if len(sys.argv) != 2:
+    if len(sys.argv) != 2 or sys.argv[1].startswith("-"):
         sys.exit(__doc__)
     # So that `rt try` is stopped, too, and the folder removed.
     for it in (signal.SIGINT, signal.SIGTERM, signal.SIGHUP):
