@@ -42,7 +42,7 @@ CURES = {
     "set": "write x = 5",
     "this": "send this to 1, or only send 1; queue this to 0",
     "auto": "auto is the checksum of a pushed header; mend updates one",
-    "port": "ports 4 says how many ports there are, and port UP = 1 names one",
+    "port": "tcp.dport == 80 compares the port of a packet; ports 4 says how many ports there are, and port UP = 1 names one",
     "count": "count web, without quotes and parentheses",
 }  # fmt: skip
 # The words that have one cure.
