@@ -11,6 +11,9 @@ import pathlib
 import stat
 import sys
 
+if sys.version_info < (3, 11):
+    print("dpv: the language pkt needs Python 3.11, and python3 is Python %d.%d" % sys.version_info[:2], file=sys.stderr)
+    sys.exit(70)
 sys.path.insert(0, str(pathlib.Path(__file__).resolve().parent.parent))
 
 from pkt.compiler import compiled, error_text, parse  # noqa: E402
