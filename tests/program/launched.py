@@ -22,6 +22,8 @@ from command import TOP, asked, new_folder, report_cases
 SEND = "send port\n"
 INCLUDES = 'include "net.pkt"\ninclude "empty.pkt"\nsend A\n'
 NET = "const A = 0\n"
+# reads beyond what is known of the first segment
+READS = "if udp.dport == 9 { mend ipv4.dscp = 46 }\nsend port\n"
 # programs that want more than `dpv filter` gives, by their files
 MORE = {
     "table.pkt": "include \"net.pkt\"\nlet hop = lookup A ipv4.dst else drop\nsend port\n",
@@ -49,6 +51,8 @@ RUN = [
     (["--name", "mine", "send.pkt", "in.pcap", "out.pcap", "--counts"], "port 0 mine"),
     (["send.pkt", "in.pcap", "out.pcap", "--counts", "--name=send.pkt"], "port 0 send.pkt"),
     (["--room", "2000", "includes.pkt", "in.pcap", "out.pcap"], None),
+    (["--segs", "3", "reads.pkt", "in.pcap", "out.pcap"], None),
+    (["reads.pkt", "--segs=64", "in.pcap", "out.pcap"], None),
 ]
 # words, the status, and what standard error has
 WRONG = [
@@ -63,6 +67,7 @@ WRONG = [
     (["filter", "pool.pkt", "in.pcap", "out.pcap"], 1, "pool.pkt:1:1: dpv filter has pool 0 alone\n"),
     (["filter", "port.pkt", "in.pcap", "out.pcap"], 1, "port.pkt:3:1: dpv filter has port 0 alone\n"),
     (["filter", "given.pkt", "in.pcap", "out.pcap"], 1, "given.pkt:1:7: `given` is for a ring"),
+    (["filter", "--segs", "65", "reads.pkt", "in.pcap", "out.pcap"], 2, "error: --segs '65' is not a number from 1 to 64\n"),
     (["build", "folder.pkt"], 3, "folder.pkt: Is a directory\n"),
     (["build", "none.pkt"], 3, "none.pkt: No such file or directory\n"),
     (["build", "wrong.pkt"], 1, "wrong.pkt:1:1: "),
@@ -80,7 +85,7 @@ class Launched:
         self.script.chmod(0o755)
         shutil.copy(TOP / "examples/nat/in.pcap", folder)
         texts = {"send.pkt": SEND, "-x.pkt": SEND, "my -x.pkt": SEND, "includes.pkt": INCLUDES, "net.pkt": NET, "empty.pkt": "", "wrong.pkt": "sned\n"}
-        for name, text in (texts | MORE).items():
+        for name, text in (texts | MORE | {"reads.pkt": READS}).items():
             (folder / name).write_text(text)
         (folder / "bytes.pkt").write_bytes(b"\xff")
         (folder / "folder.pkt").mkdir()

@@ -18,6 +18,7 @@ sys.path.insert(0, str(pathlib.Path(__file__).resolve().parent.parent))
 
 from pkt.compiler import compiled, error_text, parse  # noqa: E402
 from pkt.filtering import require_filter  # noqa: E402
+from pkt.parser import LIMITS  # noqa: E402
 from pkt.prove.command import prove_text  # noqa: E402
 from pkt.syntax import SourceError  # noqa: E402
 
@@ -27,7 +28,7 @@ def main() -> int:
     if words in (["-h"], ["--help"]):
         print(__doc__)
         return 0
-    is_filter, is_proof = words[:1] == ["--filter"] and len(words) == 4, "--prove" in words
+    is_filter, is_proof = words[:1] == ["--filter"] and len(words) == 5, "--prove" in words
     if not is_filter and not is_proof and len(words) != 1:
         print(f"{wrong(words)}{__doc__.split(chr(10) * 2)[0]}", file=sys.stderr)
         return 2
@@ -35,7 +36,7 @@ def main() -> int:
     path = pathlib.Path(asked.file if asked else words[-1])
     try:
         source = path.read_text(encoding="utf-8")
-        text, note = compiled(source, path.name, path.parent)
+        text, note = compiled(source, path.name, path.parent, segments=segments_in(words[3]) if is_filter else 1)
         if is_filter:
             require_filter(parse(source, path.parent))
     except UnicodeDecodeError as error:
@@ -54,6 +55,12 @@ def main() -> int:
             return made(text, source, path, words[1], words[2])
         return prove_text(source, text, path.parent, asked.rounds, asked.seconds) if asked else written(text)
     return 1
+
+
+def segments_in(word: str) -> int:
+    """The number of segments that an option gives; 1 for a word that is none, which the program reports."""
+    number = int(word) if word.isascii() and word.isdigit() and len(word) < 10 else 1
+    return number if number <= LIMITS["number of segments"] else 1
 
 
 def wrong(words: list[str]) -> str:

@@ -55,9 +55,11 @@ def compile_text(source: str, name: str = "a text", folder: pathlib.Path | None 
     return compiled(source, name, folder, False).text
 
 
-def compiled(source: str, name: str = "a text", folder: pathlib.Path | None = None, has_note: bool = True) -> Compiled:
-    """The node program of a text, and the note if it is wanted; raises SourceError."""
+def compiled(source: str, name: str = "a text", folder: pathlib.Path | None = None, has_note: bool = True, segments: int = 1) -> Compiled:
+    """The node program of a text for packets of this number of segments, or what it declares if that is more, and the note if it is wanted; raises
+    SourceError."""
     program = parse(source, folder)
+    program.segments = max(program.segments, segments)
     try:
         graph = compile_program(program)
         note = "; ".join(filter(None, (note_of(lines_unreached(graph), program.rows), note_of_ports(program)))) if has_note else ""
