@@ -183,6 +183,8 @@ def shared() -> list[Shared]:
         Shared([*one, "./folder/../old.pcap"], "> old.pcap", b"", printed.format("./folder/../old.pcap")),
         Shared([*one, "-"], ">> old.pcap 2>> old.pcap", OLD + reported.format("-").encode(), ""),
         Shared([*run, "--out", "0=-"], "2>> old.pcap >> old.pcap", OLD + reported.format("-").encode(), ""),
+        Shared([*one, "/dev/stdout"], ">> old.pcap", OLD, printed.format("/dev/stdout")),
+        Shared([*one, "/dev/stderr"], "2>> old.pcap", OLD + reported.format("/dev/stderr").encode(), ""),
         Shared([*one, "in.pcap"], ">> old.pcap", OLD, read),
     ]
 
