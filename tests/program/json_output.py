@@ -26,6 +26,8 @@ from model.programs import assemble
 from model.rules import JUMPS
 
 EXAMPLES = TOP / "examples"
+# A name with characters that a text in JSON has to escape, and others.
+STRANGE = 'a"b\\c\x01\x7f\u00e4\U0001f600'
 WORDS = {"freed": "     freed", "ended": "     ended"}
 
 # A program of the language pkt, and the file that it includes.
@@ -203,6 +205,8 @@ def runs(program: str, top: pathlib.Path) -> list[tuple[str, bool]]:
         for more in ([], ["--counts"]):
             words = [*one, "case.pcap", "out.pcap", *more]
             cases.append((f"{length} bytes: {words}", is_same_run(program, strip, words)))
+    words = ["filter", "strip.dpv", "in.pcap", "out.pcap", "--counts", "--name", STRANGE]
+    cases.append((f"a strange name: {words}", is_same_run(program, strip, words)))
     return cases
 
 
@@ -469,7 +473,7 @@ def faults(program: str, top: pathlib.Path) -> list[tuple[str, bool]]:
     cases = [(" ".join(words), is_fault(program, folder, words)) for words in (
         ["run", "none.toml"], ["run", "bad.toml"], ["run", "lost.toml"], ["run", "clash.toml"], ["run", "node.toml", "--counts"],
         ["check", "none.toml"], ["check", "bad.toml"], ["check", "node.toml"], ["explain", "none.toml"], ["explain", "bad.toml"],
-        ["one", "none.dpv", "none.cert", "in0.pcap", "out.pcap"])]
+        ["one", "none.dpv", "none.cert", "in0.pcap", "out.pcap"], ["filter", "forward.dpv", STRANGE, "out.pcap"], ["check", STRANGE])]
     cases += [(" ".join(words), is_silent(program, folder, words)) for words in (
         ["run", "multicast.toml", "--refuse", "0"], ["run"], ["explain", "multicast.toml", "port7"], ["explain", "multicast.toml", "nobody"])]
     made = run(program, folder, "explain", "node.toml", "--json")
