@@ -55,6 +55,24 @@ NAMED = {"ssh": 2, "dns": 4, "other": 1}
 SENT = 6
 
 
+# A program that sends each packet on, an IPv4 header of UDP from 10.0.0.1 to 10.0.0.2, and what a trace says of a record whose addresses these
+# bytes follow.
+PASS = "tx p0,r0,full\nexit\nfull: free p0\nexit\n"
+HEADER = "4500001e 0000 0000 4011 0000 0a000001 0a000002"
+SUMMARIES = (
+    ("0800", "IP cut short"),
+    (f"0800 {HEADER[:-2]}", "IP cut short"),
+    (f"0800 {HEADER} 0007 0009", "IP 10.0.0.1 > 10.0.0.2 UDP 7 > 9"),
+    (f"0800 {HEADER} 0007 00", "IP 10.0.0.1 > 10.0.0.2 UDP"),
+    (f"0800 {HEADER.replace('0000 4011', '0002 4011')} 0007 0009", "IP 10.0.0.1 > 10.0.0.2 UDP"),
+    (f"8100 0005 0800 {HEADER} 0007 0009", "vlan 5 IP 10.0.0.1 > 10.0.0.2 UDP 7 > 9"),
+    (f"88a8 0006 8100 0005 0800 {HEADER} 0007 0009", "vlan 6 vlan 5 IP 10.0.0.1 > 10.0.0.2 UDP 7 > 9"),
+    ("8100 0005", "vlan 5 cut short"),
+    ("8100", "ethertype 0x8100"),
+    ("86dd 6000" + " 00" * 37, "IP6 cut short"),
+)
+
+
 class Ran(NamedTuple):
     """How a command ended."""
 
@@ -401,7 +419,7 @@ def event_lines(event: dict[str, Any]) -> list[str]:
 
 def record_lines(doc: dict[str, Any]) -> list[str]:
     """The lines of a record of a trace, without the blanks before them, but for those of a call for a record that was not received."""
-    lines = [f"record {doc['record']} port {doc['port']} time {doc['time']}, {doc['bytes']} bytes"]
+    lines = [f"record {doc['record']} port {doc['port']} time {doc['time']}, {doc['bytes']} byte{'' if doc['bytes'] == 1 else 's'}"]
     lines += [doc["summary"]] if doc["summary"] is not None else []
     for event in doc["events"]:
         lines += event_lines(event)
@@ -441,7 +459,27 @@ def traces(program: str, top: pathlib.Path) -> list[tuple[str, bool]]:
     cases.append(("trace of a pipeline that is not there", is_fault(program, strip, ["trace", "none.toml"])))
     cases.append(("trace-one of another port", is_silent(program, strip, [*one, "in.pcap", "--port", "1"])))
     piped = subprocess.run([program, *one, "-"], cwd=strip, stdin=open(strip / "in.pcap", "rb"), capture_output=True, check=False)
+    cases += summaries(program, strip)
     cases.append(("trace-one of standard input", piped.stdout == run(program, strip, *one, "in.pcap").out and piped.returncode == 0))
+    return cases
+
+
+def summaries(program: str, folder: pathlib.Path) -> list[tuple[str, bool]]:
+    """What traces say of records, also of such as are cut short or have several segments, and which of them have an address or some bytes."""
+    frames = [bytes(12) + bytes.fromhex(it) for it, _ in SUMMARIES]
+    (folder / "pass.dpv").write_text(PASS)
+    (folder / "frames.pcap").write_bytes(capture(frames))
+    (folder / "pass.cert").write_bytes(run(program, folder, "infer-one", "pass.dpv").out)
+    node = 'node = "pass.dpv"\nin = "frames.pcap"\nout = "out.pcap"\n'
+    ports = f"[[port]]\npool = 0\nsegs = 9\nqueue = 32\n{node}"
+    (folder / "small.toml").write_text(f"region = 262144\n[[pool]]\ncount = 64\ncache = 0\nroom = 136\n{ports}")
+    cases = []
+    for words in (["trace-one", "pass.dpv", "pass.cert", "frames.pcap"], ["trace", "small.toml"]):
+        docs = [document(line + b"\n") for line in run(program, folder, *words, "--json", "--records", "99").out.splitlines()]
+        cases += [(f"{words}: {said}", doc["summary"] == said) for doc, (_, said) in zip(docs, SUMMARIES, strict=False)]
+        for pattern, wanted in (("10.0.0.2", [3, 4, 5, 6, 7]), ("0a000002@30", [3, 4, 5]), ("0800@16", [6])):
+            made = run(program, folder, *words, "--match", pattern, "--json").out.splitlines()
+            cases.append((f"{words} --match {pattern}", [json.loads(line).get("record") for line in made[:-1]] == wanted))
     return cases
 
 

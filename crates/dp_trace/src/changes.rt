@@ -123,7 +123,7 @@ fn say_segment(segment: SegmentView<'_>, out: &mut Text) {
 }
 
 /// Adds a count with its unit, which gets an `s` unless there is exactly one.
-fn say_count(count: usize, unit: &str, out: &mut Text) {
+pub fn say_count(count: usize, unit: &str, out: &mut Text) {
     let plural = if count == 1 { "" } else { "s" };
     out.say(format_args!("{count} {unit}{plural}"));
 }

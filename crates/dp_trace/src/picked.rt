@@ -1,6 +1,6 @@
 //! Which records of a trace are printed.
 
-use crate::summary::after;
+use crate::summary::{after, untagged};
 
 /// Selects records of a trace by their outcome or by their number.
 #[derive(Clone, Copy)]
@@ -69,6 +69,9 @@ fn address_in(text: &str) -> Option<[u8; 16]> {
 
 /// Parses the argument of `--match`: an IPv4 address A.B.C.D, or `BYTES@OFFSET` with up to 16 bytes in hexadecimal digits and a decimal offset.
 pub fn pattern_in(word: &str) -> Option<Pattern> {
+    if word.contains('+') {
+        return None;
+    }
     let Some((text, offset)) = word.split_once('@') else {
         return Some(Pattern(address_in(word)?, 4, None));
     };
@@ -78,14 +81,14 @@ pub fn pattern_in(word: &str) -> Option<Pattern> {
 }
 
 impl Pattern {
-    /// Whether a record has the bytes.
+    /// Whether a record has the bytes. An address is looked for behind VLAN tags, too.
     pub fn is_in(&self, record: &[u8]) -> bool {
         let bytes = self.0.get(..self.1).unwrap_or(&[]);
-        let (source, destination) = (after(record, 26), after(record, 30));
+        let rest = untagged(record);
         match self.2 {
             Some(offset) => after(record, offset).starts_with(bytes),
-            None if !after(record, 12).starts_with(&[8, 0]) => false,
-            None => source.starts_with(bytes) || destination.starts_with(bytes),
+            None if !rest.starts_with(&[8, 0]) => false,
+            None => after(rest, 14).starts_with(bytes) || after(rest, 18).starts_with(bytes),
         }
     }
 }

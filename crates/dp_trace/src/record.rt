@@ -1,13 +1,13 @@
 //! A record of a trace: what is printed of it, as text or as a JSON document.
 
-use crate::changes::{BytesBefore, Snapshot, bytes_before};
+use crate::changes::{BytesBefore, Snapshot, bytes_before, say_count};
 use crate::picked::Only;
 use crate::shown::Shown;
 use crate::summary::say_summary;
 use dp_console::{Document, Item, Text};
 use dp_engine::{Outcome, Turn, View, Way};
 use dp_load::{NodeName, Pipeline};
-use dp_model::{Entry, Instr, PacketRegister};
+use dp_model::{Entry, Instr, MAX_SEGMENTS, PacketRegister};
 use dp_pcap::Time;
 use std::alloc::{AllocError, Global};
 
@@ -31,6 +31,8 @@ pub struct Record<'a> {
     next: Option<BytesBefore>,
     /// Its number, from 1, its port, its time and its length.
     arrival: (u32, u8, Time, usize),
+    /// Its bytes, if it was received.
+    bytes: Vec<u8>,
     /// What is printed.
     pub text: Text,
     events: Vec<Event<'a>>,
@@ -62,6 +64,7 @@ impl<'a> Record<'a> {
             before: Snapshot::default(),
             next: None,
             arrival: (0, 0, Time { sec: 0, nano: 0 }, 0),
+            bytes: Vec::new(alloc),
             text: Text::new(alloc),
             events: Vec::new(alloc),
             became: Text::new(alloc),
@@ -76,6 +79,7 @@ impl<'a> Record<'a> {
         let (picked, seconds, nanos) = (self.shown.picked, time.sec, time.nano);
         self.arrival = (number, port, time, len);
         self.text.bytes.clear();
+        self.bytes.clear();
         self.events.clear();
         self.became.bytes.clear();
         self.has_outcome = match picked.only {
@@ -88,7 +92,9 @@ impl<'a> Record<'a> {
         self.before.lists = [0; 8];
         self.text
             .say(format_args!("record {number} port {port} time {seconds}"));
-        self.text.say(format_args!(".{nanos:09}, {len} bytes\n"));
+        self.text.say(format_args!(".{nanos:09}, "));
+        say_count(len, "byte", &mut self.text);
+        self.text.say("\n");
     }
 
     /// An instruction of the node that runs.
@@ -122,19 +128,28 @@ impl<'a> Record<'a> {
             Entry::Port(port) => usize::from(port),
             Entry::Ring(ring) => self.ports.saturating_add(usize::from(ring)),
         };
-        if matches!(node, Entry::Port(_))
-            && let Some(segment) = view.segment(PacketRegister::new(0), 0)
-        {
-            self.text.say("      ");
-            say_summary(&mut self.text, segment.bytes);
-            self.text.say("\n");
-            if let Some(pattern) = self.shown.picked.pattern {
-                self.has_bytes = pattern.is_in(segment.bytes);
-            }
+        if matches!(node, Entry::Port(_)) {
+            self.note_received(view);
         }
         let name = NodeName(node);
         self.text.say(format_args!("{name}\n"));
         self.say_event(None, Some(0), view);
+    }
+
+    /// Adds what the received record is, and notes whether it has the bytes that are asked for.
+    fn note_received(&mut self, view: &View<'_>) {
+        for index in 0..MAX_SEGMENTS {
+            if let Some(segment) = view.segment(PacketRegister::new(0), u32::from(index)) {
+                self.text.has_failed |= self.bytes.extend_from_slice(segment.bytes).is_err();
+            }
+        }
+        let bytes = self.bytes.as_slice();
+        self.text.say("      ");
+        say_summary(&mut self.text, bytes);
+        self.text.say("\n");
+        if let Some(pattern) = self.shown.picked.pattern {
+            self.has_bytes = pattern.is_in(bytes);
+        }
     }
 
     /// The instruction at a label ran.
