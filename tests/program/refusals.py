@@ -42,7 +42,7 @@ LENGTH, WRITES = "given length 34\nif eth.type == 5 { drop }\nsend 0\n", "eth.ty
 MAKES, SENDS = "new h from 1\npush eth { type = 5 } on h\nfree h\nsend 0\n", "need eth.type < 3\nsend eth.type\n"
 UNFIT = [
     Unfit("port0", MARK, {"segs": 5}, "write segments 5 in its source, as the port takes packets of 5 segments, and build it again", f"segments 5\n{MARK}", {"segs": 5}),
-    Unfit("port0", f"ports 3\n{SENDS}", {}, "write ports 1 in its source, the number of ports, and build it again", f"ports 1\n{SENDS}", {}),
+    Unfit("port0", f"ports 3\n{SENDS}", {}, "write ports 1 in its source, the number of ports, and build it again; or run it in a pipeline with more ports", f"ports 1\n{SENDS}", {}),
     Unfit("port0", MAKES, {"room": 0}, "let new take its packet from a pool whose room is at least 128", MAKES, {"room": 142}),
     Unfit("ring0", LENGTH, {}, GIVEN, LENGTH, {"first": 34}),
     Unfit("ring0", WRITES, {"share": 0}, GIVEN, WRITES, {}),

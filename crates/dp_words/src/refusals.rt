@@ -286,13 +286,13 @@ impl HintText {
             },
             Reason::TooLong { .. } => "let the port or ring take packets of fewer segments",
             Reason::NoPort { .. } if self.built_for.is_some() =>
-                "write ports @ in its source, the number of ports, and build it again",
+                "write ports @ in its source, the number of ports, and build it again; or run it in a pipeline with more ports",
             Reason::NoPort { .. } => "jlt r#,@,L before it, and at L the tx",
             Reason::LessThanRing { .. } =>
                 "test for what is missing before it, or let the ring declare less",
             Reason::LeftOver { .. } => "free p# before it",
             Reason::Successor { gap, .. } if self.inferred && wants_none(gap) =>
-                "free p# before control goes there: another path arrives with p# empty",
+                "free p# before control goes there, or let this path end with exit: another path arrives with p# empty",
             _ if self.inferred =>
                 "test or bound it again before control goes there, or leave the loop with what it began with",
             _ => "let dpv infer write the certificate, or test for more before it",
