@@ -239,7 +239,7 @@ def cures() -> Iterator[Case]:
     text, word = ("1 NotToml", "the text is not TOML"), ("6 Asm port 0 line 1 cause 2", NO_NAME)
     run_it = "dpv filter a.pkt IN OUT runs it, and dpv build a.pkt > a.dpv compiles it for a pipeline"
     yield Case(["run", "a.pkt"], 3, helped(*text, "a.pkt", f"{IS_PKT}{run_it}"), is_whole=True)
-    yield Case(["run", "strip.dpv"], 3, helped(*text, "strip.dpv", "it is a program: dpv filter strip.dpv IN OUT runs it"), is_whole=True)
+    yield Case(["run", "strip.dpv"], 3, helped(*text, "strip.dpv", "it is a program: dpv filter strip.dpv IN OUT runs it, dpv explain-one strip.dpv judges it, and dpv show-one strip.dpv prints it"), is_whole=True)
     yield Case(["run", "pkt_node.toml"], 3, helped(*word, "a.pkt", f"{IS_PKT}dpv build a.pkt > a.dpv compiles it"), is_whole=True)
 
 
@@ -279,7 +279,9 @@ def route_files() -> Iterator[Case]:
         own = [command, "rules_full.toml", "--routes", "0=all.txt"]
         yield Case(own, 3, helped(*ROUTES["rules"][:2], f"rules_full.toml:{ROUTES['rules'][2]}", ROUTES["rules"][3]), is_whole=True)
         cure = "  help: each line is a route, A.B.C.D/DEPTH HOP, or begins with #\n"
-        for name, line in (("marked.txt", 1), ("tab.txt", 2), ("return.txt", 1)):
+        marked = "it begins with a byte-order mark, which editors do not show: save it without one"
+        yield Case([command, "routed.toml", "--routes=0=marked.txt"], 3, file("marked.txt", marked) + cure, is_whole=True)
+        for name, line in (("tab.txt", 2), ("return.txt", 1)):
             yield Case([command, "routed.toml", f"--routes=0={name}"], 3, file(name, f"line {line} has a character that is not printable ASCII") + cure, is_whole=True)
         yield Case([command, "routed.toml", "--routes=1=latin.txt"], 3, file("latin.txt", "it is not UTF-8") + cure, is_whole=True)
         for name, reason in (("none", system(errno.ENOENT)), ("folder", system(errno.EISDIR)), ("long.txt", "it is longer than 1048576 bytes")):
@@ -367,11 +369,14 @@ def traces() -> Iterator[Case]:
     for which in ("late", "0", "", "-1", "134217729"):
         reported = f"error: '{which}' is none of sent, freed, refused and cut, and no number of a record\n"
         yield Case(["trace", "none", f"--only={which}"], 2, reported)
-    yield Case(["trace", "both.toml", "--instr", "nowhere"], 2, "error: no program has the label 'nowhere'\n")
+    yield Case(["trace", "both.toml", "--instr", "nowhere"], 2, "error: no program has an instruction 'nowhere'\n")
+    yield Case(["trace", "both.toml", "--instr", "1024"], 2, "error: no program has an instruction '1024'\n")
     yield Case(["trace", "both.toml", "--port", "1", "--records", "1", "--only", "sent", "--instr", "0"], 0, "")
     yield Case(["trace", "both.toml", "--port", "1", "--records", "1"], 0, "")
+    for pattern in ("+10.0.0.1", "0800@+12", "10.0.0", "080@12"):
+        yield Case(["trace", "none", "--match", pattern], 2, f"error: '{pattern}' is neither an address A.B.C.D nor BYTES@OFFSET, as 0800@12\n")
     unmatched = "note: no record of the trace was selected\n"
-    for more in (["--only", "99"], ["--instr", "99"], ["--match", "ff@60000"], ["--only", "99", "--json"]):
+    for more in (["--only", "99"], ["--match", "ff@60000"], ["--only", "99", "--json"]):
         yield Case(["trace", "both.toml", *more], 0, unmatched)
         yield Case(["trace-one", "strip.dpv", "strip.cert", "in.pcap", *more], 0, unmatched)
     yield Case(["trace-one", "strip.dpv", "strip.cert", "in.pcap", "--port", "1"], 2, "error: the pipeline has no port 1\n")

@@ -1,6 +1,6 @@
 //! Says which line of a pipeline file is at fault, and what helps.
 
-use crate::program_help::{Nearest, count_newlines, say_place};
+use crate::program_help::{Nearest, count_newlines, is_capture, say_place};
 use crate::route_files::{RouteFile, route_in};
 use dp_console::Text;
 use dp_lang::{SourceLine, source_line};
@@ -263,7 +263,7 @@ impl<'a> PipelineFile<'a> {
                 "  help: with one segment 'first' and 'last' are equal, and no packet is longer than the room of a buffer\n",
             ),
             EnvError::BadPort(_) => err.say(format_args!(
-                "  help: there are {pools} pools, counted from 0, and a port needs one with a room of at least 129\n"
+                "  help: pools are counted from 0 (here {pools}), and a port needs one with a room of at least 129\n"
             )),
             EnvError::TooMany => {
                 err.say("  help: the counts of all pools together are at most 65535\n");
@@ -322,7 +322,7 @@ fn say_program(err: &mut Text, file: &str) -> bool {
             "  help: it is a program of the language pkt: dpv filter {file} IN OUT runs it, and dpv build {file} > {name}.dpv compiles it for a pipeline\n"
         )),
         None => err.say(format_args!(
-            "  help: it is a program: dpv filter {file} IN OUT runs it\n"
+            "  help: it is a program: dpv filter {file} IN OUT runs it, dpv explain-one {file} judges it, and dpv show-one {file} prints it\n"
         )),
     }
     true
@@ -347,6 +347,12 @@ pub fn say_pipeline_help(
 ) {
     if matches!(error, PipeError::Memory) || say_program(err, file) {
         return;
+    }
+    if is_capture(text) {
+        say_place(err, file, None);
+        return err.say(format_args!(
+            "  help: it is a capture: dpv filter PROGRAM {file} OUT runs a program on it\n"
+        ));
     }
     let Ok(text) = std::str::from_utf8(text) else {
         say_place(err, file, None);
