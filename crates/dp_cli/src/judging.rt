@@ -144,10 +144,18 @@ fn shown_in<R: Files>(
 /// `dpv show FILE [WHICH]` and `dpv show-one NODE [CERT]`.
 pub fn shown<R: Files>(request: &Request<'_, '_, R>) -> Result<Reply, Reply> {
     let (counts, is_dot) = (request.words.get_str("counts"), request.flag("dot"));
+    if request.flag("calls") && !is_dot {
+        return Err(request.wrong("error: --calls is for a picture: add --dot, or leave it out"));
+    }
     if request.words.get_str("NODE").is_some() {
         return shown_in(request, Some(Entry::Port(0)), None);
     }
-    let which = which_in(request)?;
+    let (which, file) = (which_in(request)?, request.word("FILE"));
+    if which.is_none() && file.ends_with(".dpv") {
+        return Err(request.wrong(format_args!(
+            "error: {file} is a program, and no pipeline file: dpv show-one {file} prints it"
+        )));
+    }
     if let Some(problem) = show_problem(which.is_some(), counts.is_some(), is_dot) {
         return Err(request.wrong(problem));
     }

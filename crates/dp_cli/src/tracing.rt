@@ -113,14 +113,17 @@ fn labels_in<R>(
     };
     let mut is_found = false;
     for node in nodes {
-        let label = node.label(word);
+        let label = match node.label(word) {
+            Some(label) if usize::from(label) < node.texts.len() => Some(label),
+            _ => None,
+        };
         is_found = is_found || label.is_some();
         if labels.push(label).is_err() {
             return Err(request.without_memory());
         }
     }
     if !is_found {
-        return Err(request.wrong(format_args!("error: no program has the label '{word}'")));
+        return Err(request.wrong(format_args!("error: no program has an instruction '{word}'")));
     }
     Ok(labels)
 }
