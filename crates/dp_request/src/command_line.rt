@@ -21,7 +21,7 @@ infer: Infers the certificates of a pipeline, and prints one:
     FILE WHICH;
 infer-one: Infers the certificate of one program on the port of one, and prints it:
     NODE;
-explain: Explains why programs of a pipeline are refused, and what helps; check --sizes shows what takes the bytes of its region:
+explain: Explains why programs of a pipeline are refused, and what helps:
     FILE WHICH_OR_ALL json;
 explain-one: Explains why one program is refused on the port of one, and what helps:
     NODE CERT_OR_NONE json;
@@ -45,7 +45,7 @@ mem: Runs a heap script:
 const WORDS: &str = "
 FILE: FILE: the pipeline file
 SCRIPT: FILE: the heap script
-PROGRAM: PROGRAM: the node program; ./dpv takes one of the language pkt, too
+PROGRAM: PROGRAM: the node program, or a program of the language pkt in a file *.pkt
 NODE: NODE: the node program
 CERT: CERT: its certificate
 CERT_OR_NONE: CERT?: its certificate; else one is inferred
@@ -62,7 +62,7 @@ dot: --dot: prints a graph for dot, as dot -Tsvg draws it
 calls: --calls: with --dot, draws each part of a program that has no branch as a box of its own
 counts_file: --counts COUNTS: with --dot, what run FILE --counts --json printed: each arrow gets its count
 counts: --counts: prints the programs after the report, with how often each instruction ran
-source: --source: with --counts, sums them by the lines of the program's source
+source: --source: prints counts by the lines of the program's source, in place of those of --counts
 drops: --drops: prints the places where packets ended without being sent, most first
 progress: --progress: says on standard error how many records were read, each million and at the end
 unbuffered: --unbuffered -U: writes each record out as soon as it is sent, as for a pipe
@@ -76,7 +76,7 @@ no_inputs: --no-in PORT..: a port that gets no records
 no_outputs: --no-out PORT..: a port whose records are dropped
 routes: --routes TABLE=FILE..: a file with a route on each line, which a table gets after its own routes
 refuse: --refuse LIST: the allocation calls that are refused, as 3 or 1,5,9
-records: --records N: how many records are traced, from 1 on; else 10, or all with --only or --instr
+records: --records N: how many records are traced, from 1 on; else 10, or all with --only, --instr or --match
 port: --port P: the port whose records alone come in; else all
 only: --only WHICH: the records that are printed: sent, freed, refused, cut, or a number from 1 on
 instr: --instr LABEL: the label, or the number, of an instruction that a printed record came by

@@ -172,6 +172,10 @@ fn fault_of<'a>(name: &'a str, words: &'a str) -> Fault<'a>
     Fault::File(name, because)
 }
 
+/// What is wrong with a file of routes that begins with a byte-order mark.
+const MARKED: &str =
+    "it begins with a byte-order mark, which editors do not show: save it without one";
+
 /// The reply to a file whose routes are not all printable, if they are not.
 fn strange<R>(request: &Request<'_, '_, R>, file: &RouteFile) -> Option<Reply>
     ensures { IfSome result IsFault }
@@ -183,6 +187,9 @@ fn strange<R>(request: &Request<'_, '_, R>, file: &RouteFile) -> Option<Reply>
     );
     if !file.is_text() {
         return Some(failed(alloc, fault_of(name, "it is not UTF-8"), is_json));
+    }
+    if file.source.bytes.as_slice().starts_with(b"\xef\xbb\xbf") {
+        return Some(failed(alloc, fault_of(name, MARKED), is_json));
     }
     let number = file.strange_line()?;
     let mut text = Text::new(alloc);
