@@ -1,8 +1,8 @@
 /* dpv.h: an engine of dpv inside a program in C or C++. C99; link libdpv.a.
 
    dpv_open loads a pipeline file and opens its engine. Each dpv_pass takes one frame that a port received and returns all frames
-   that the pipeline sends for it. dpv_close ends the engine. The library opens no socket, and after dpv_open only dpv_batch_open allocates memory.
-   dpv_cost, which needs no engine, bounds what a program can cost, before it is let in.
+   that the pipeline sends for it. dpv_close ends the engine. The library opens no socket, and after dpv_open only dpv_batch_open and
+   dpv_burst_open allocate memory. dpv_cost, which needs no engine, bounds what a program can cost, before it is let in.
 
    What can be tested is tested: a refused call returns the reason, by one of the names below, and changes nothing, except that a refused
    dpv_pass or dpv_batch_open leaves the batch empty.
