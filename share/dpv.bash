@@ -29,13 +29,13 @@ _dpv_operands() {
         "filter 0") _dpv_files pkt "$4"; _dpv_files dpv "$4" ;;
         "one 2" | "one 3" | "trace-one 2" | "filter 1" | "filter 2") _dpv_files pcap "$4" ;;
         "mem 0") compgen -f -- "$4" ;;
-        "library 0") compgen -d -- "$4" ;;
+        "install 0" | "package 0" | "library 0") compgen -d -- "$4" ;;
     esac
 }
 
 _dpv() {
     local word="${COMP_WORDS[COMP_CWORD]}" command first= count=0 place begin=1
-    local commands="filter one check compile infer infer-one explain explain-one show show-one run trace trace-one mem help" more=" build library --unproved --compiled"
+    local commands="filter one check compile infer infer-one explain explain-one show show-one run trace trace-one mem help" more=" build install package library --unproved --compiled"
     if ((COMP_CWORD > 1)) && [ "${COMP_WORDS[1]}" = --unproved ]; then
         begin=2 more=
     fi
