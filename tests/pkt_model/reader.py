@@ -57,9 +57,11 @@ def value_of(kind: str, text: str) -> int:
         return int(text.replace(":", ""), 16)
     if kind == "dotted":
         parts = [int(part) for part in text.split(".")]
-        if max(parts) > 255:
+        if max(parts) > 255 or text != ".".join(map(str, parts)):
             raise Fault(f"no address: {text}")
         return int.from_bytes(bytes(parts), "big")
+    if kind == "decimal" and text[0] == "0" != text:
+        raise Fault(f"a number that begins with 0: {text}")
     return int(text, 16 if kind == "hex" else 10)
 
 

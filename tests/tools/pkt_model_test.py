@@ -163,7 +163,7 @@ class Numbers(unittest.TestCase):
         self.assertEqual([len(it) for it in sent("let hop = lookup 0 8.8.8.8 else send 0 drop", PLAIN)], [1, 0, 0])
 
     def test_texts_that_are_none(self) -> None:
-        for text in ("send", "if ipv4 send 0", "let in = 5", "x @ 5", "send (1 == 1) + 1"):
+        for text in ("send", "if ipv4 send 0", "let in = 5", "x @ 5", "send (1 == 1) + 1", "let x = 017", "let x = 10.0.0.01"):
             with self.assertRaises(Fault, msg=text):
                 read(text, PRELUDE)
 

@@ -199,6 +199,15 @@ def constant_of(node: Node, cure: str = "") -> int:
     return node.value
 
 
+def without_zeros(word: str) -> str:
+    """What to write for a number that begins with 0, or for an address with such a part."""
+    parts = [part.lstrip("0") or "0" for part in word.split(".")]
+    is_octal = len(parts) == 1 and parts != ["0"] and len(word) < 12 and not {*word} & {"8", "9"}
+    other = f", or {int(word, 8):#x} where it was octal" if is_octal else ""
+    cure = {3: "; a number has no comma within it", 12: "; an Ethernet address has colons"}.get(len(word), "") if len(parts) == 1 else ""
+    return f"write {'.'.join(parts)[:20]}{other}{cure}"
+
+
 class Parser(Lexer):
     """Reads a text. `unknown` has the names that are not numbers. The names of a `def` have a `suffix` where it
     is used, `active` are those that are being used."""
@@ -440,8 +449,11 @@ class Parser(Lexer):
     def literal(self) -> int:
         """The value of a literal."""
         kind, at = self.kind, self.take()
+        padded = next((part for part in at.word.split(".") if part.isdigit() and part[0] == "0" != part), "")
+        if padded and not self.sees(":"):
+            raise SourceError(at, f"{padded[:20]} begins with 0, and is octal in some languages", without_zeros(at.word))
         if kind == "ip":
-            digits = [int(part[-4:]) + 256 * (len(part.lstrip("0")) > 3) for part in at.word.split(".")]
+            digits = [int(part[:4]) for part in at.word.split(".")]
             require(max(digits) <= 255, at, "a part of an address is at most 255", "write each of the four parts as 0 to 255")
             return int.from_bytes(bytes(digits), "big")
         is_hex = kind == "ethernet" or at.word.startswith("0x")
