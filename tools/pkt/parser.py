@@ -7,7 +7,7 @@ from dataclasses import dataclass, field, replace
 from pathlib import Path as File
 from typing import NamedTuple
 
-from .cures import ALONE, CURES, FIELD, LOOKUP, WANTED, cure_of, meant, number_meant
+from .cures import ALONE, BITS, CURES, FIELD, LOOKUP, WANTED, cure_of, meant, number_meant
 from .headers import Header, Headers, Span, check
 from .lexer import RESERVED, Lexer, require_word
 from .syntax import (
@@ -123,6 +123,9 @@ def as_number(node: Node) -> Node:
 
 def as_condition(node: Node) -> Node:
     """A number as a condition: that it is not 0."""
+    if isinstance(node, Field) and node.name in BITS.get(node.header, {}):
+        name, bit = f"{node.header}.{node.name}", BITS[node.header][node.name]
+        raise SourceError(node.at, f"{name} is a number, and no flag", f"{node.header}.flags & {bit} is the flag; {name} != 0 asks for the number")
     return compared("!=", node, Number(node.at, 0)) if isinstance(node, Numeric) else node
 
 
