@@ -37,6 +37,7 @@ WEIGHTS = {"eth": 6, "vlan": 4, "qinq": 2, "mpls": 2, "arp": 1, "ipv4": 12, "ipv
 
 # A constant, and a field.
 CONSTANT, FIELD = re.compile(r"[0-9][0-9a-fx.:]*|K[0-9]+"), re.compile(r"[a-z][a-z0-9_]*\.[a-z][a-z0-9_]*")
+ZEROS = ("0", "0x0", "0.0.0.0", "00:00:00:00:00:00")
 SIXES = ("2001:db8::1", "2001:db8::", "fe80::2", "::", "::1", "2001:db8:1:2:3:4:5:6")
 
 
@@ -105,13 +106,19 @@ class Numbers:
         if deep == 0 or kind < 0.4:
             return self.simple()
         if kind < 0.5:
-            return f"({self.number(deep - 1)} {rng.choice(('<<', '>>'))} {rng.choice((1, 2, 4, 8, 16, 31, 32, 63, 0))})"
+            return self.shifted(self.number(deep - 1))
         if kind < 0.56:
             return f"{rng.choice((2, 3, 4, 5, 10, 256, 1000, 65_537))} * {self.number(0)}"
         if kind < 0.6:
             return f"~{self.number(0)}"
         left, right = self.number(deep - 1), self.number(deep - 1)
         return f"({left} {rng.choice('+-&|^')} {right})" if self.chance(0.8) else f"{left} {rng.choice('+-&|^')} {right}"
+
+    def shifted(self, number: str) -> str:
+        """A number that is shifted; to the right by less than all its bits."""
+        sign, by = self.rng.choice(("<<", ">>")), self.rng.choice((1, 2, 4, 8, 16, 31, 32, 63, 0))
+        bits = 2 if "port" in number else min((self.width(it) for it in FIELD.findall(number)), default=64)
+        return f"({number} {sign} {by % bits if sign == '>>' else by})"
 
     def simple(self) -> str:
         """A field, a variable, the port, or a constant."""
@@ -139,11 +146,11 @@ class Numbers:
         if kind < 0.22:
             return self.path()
         if kind < 0.3:
-            return f"length {self.comparison()} {rng.choice((*LENGTHS, rng.randrange(200)))}"
+            return self.compared("length", str(rng.choice((*LENGTHS, rng.randrange(200)))))
         if kind < 0.34:
-            return rng.choice((f"{rng.choice(LENGTHS)} {self.comparison()} length", "length in 40..60", "length in {54, 60..64}"))
+            return rng.choice((f"{rng.choice(LENGTHS[1:])} {self.comparison()} length", "length in 40..60", "length in {54, 60..64}"))
         if kind < 0.37:
-            return f"port {self.comparison()} {rng.randrange(3)}"
+            return self.compared("port", str(rng.randrange(3)))
         if kind < 0.42:
             number = self.number(1)
             return rng.choice((self.field(), f"{self.field()} & {self.literal(8)}", self.field() if CONSTANT.fullmatch(number) else number))
@@ -151,13 +158,18 @@ class Numbers:
             return self.membership()
         if kind < 0.85:
             field = self.field()
-            return f"{field} {self.comparison()} {self.value_for(field)}"
+            return self.compared(field, self.value_for(field))
         left, right = self.number(1), self.number(1)
         if FIELD.fullmatch(left):
             right = self.fitting(left, right)
         elif FIELD.fullmatch(right):
             left = self.fitting(right, left)
-        return f"{left} {self.comparison()} {right}"
+        return self.compared(left, right)
+
+    def compared(self, left: str, right: str) -> str:
+        """A comparison; no number is below 0, and every one at least 0."""
+        signs = {left in ZEROS: ("<", ">="), right in ZEROS: (">", "<=")}.get(True, ())
+        return f"{left} {self.rng.choice(('==', '!=', *signs)) if signs else self.comparison()} {right}"
 
     def comparison(self) -> str:
         """A sign."""

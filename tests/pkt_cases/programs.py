@@ -294,7 +294,7 @@ class Writer:
         lines: Lines = []
         for _ in range(rng.choice((2, 3, 4))):
             fields = [f"{name}.{rng.choice(list(self.headers[name].fields))}" for name in rng.sample(headers, 2)]
-            tests = [f"{field} {self.numbers.comparison()} {self.numbers.value_for(field)}" for field in fields]
+            tests = [self.numbers.compared(field, self.numbers.value_for(field)) for field in fields]
             body = rng.choice((self.end(state)[0], "let w = 1", f"count {self.name('n')}"))
             if self.may_write(state) and self.chance(0.3):
                 target = rng.choice(("ipv4.proto", "ipv4.frag", "ipv4.ttl", "eth.type", fields[0]))

@@ -389,6 +389,27 @@ class Slips(unittest.TestCase):
          "if tcp.flags & 16 { drop }\nsend port"),
         ("need tcp.flags & 2 and not tcp.ack\nsend port", "1:28: tcp.ack is", "tcp.ack != 0 asks for the number",
          "need tcp.flags & 2 and not tcp.ack == 0\nsend port"),
+        ("need ipv4.src & 255.255.255.0 == 10.0.0.1\nsend port", "1:34: the number beside it has no such bits: this is 10.0.0.1",
+         "ipv4.src in 10.0.0.0/24 compares its first 24 bits", "need ipv4.src in 10.0.0.0/24\nsend port"),
+        ("if eth.dst & ff:ff:ff:00:00:00 != 01:00:5e:00:00:01 { drop }\nsend port", "1:35", "eth.dst in 01:00:5e:00:00:00/24",
+         "if not eth.dst in 01:00:5e:00:00:00/24 { drop }\nsend port"),
+        ("need ipv4.src >> 24 == 10.0.0.0\nsend port", "1:24: the number beside it is at most 255: this is 10.0.0.0", "its values are from 0 to 255",
+         "need ipv4.src >> 24 == 10\nsend port"),
+        ("need ipv4.tos & 3 != 4\nsend port", "1:22: the number beside it is at most 3", "its values are from 0 to 3", "need ipv4.tos & 3 != 3\nsend port"),
+        ("need ~ipv4.ttl == 0xfe\nsend port", "1:19: the number beside it is at least", "^ 0xff those of this number", "need ipv4.ttl ^ 0xff == 0xfe\nsend port"),
+        ("if ~tcp.flags { drop }\nsend port", "1:5: this number is never 0", "x & 2 == 0 asks whether a bit is clear", "if tcp.flags & 2 == 0 { drop }\nsend port"),
+        ("if tcp.flags | 2 { drop }\nsend port", "1:4: this number is never 0", "x & 2 asks for a bit", "if tcp.flags & 2 { drop }\nsend port"),
+        ("if tcp.flags & 0x200 { drop }\nsend port", "1:16: tcp.flags has 8 bits, and 0x200 has none of them", "2 SYN", "if tcp.flags & 2 { drop }\nsend port"),
+        ("if ipv4.flags & 0x2000 { drop }\nsend port", "1:17: ipv4.flags has 3 bits", "1 says that more fragments follow", "if ipv4.flags & 1 { drop }\nsend port"),
+        ("need not 0x2000 & ipv4.frag\nsend port", "1:10: ipv4.frag has 13 bits", "need ipv4.pieces == 0", "need ipv4.pieces == 0\nsend port"),
+        ("vlan.pcp &= 8\nsend port", "1:13: vlan.pcp has 3 bits, and 8 has none of them", "at most 7", "vlan.pcp &= 4\nsend port"),
+        ("let x = ipv4.tos >> 8\nsend port", "1:21: ipv4.tos has 8 bits, and none of them is left", "at most 255", "let x = ipv4.tos >> 7\nsend port"),
+        ("need port == 80\nsend port", "1:14: the number beside it is at most 7: this is 80", "l4.dport == 80 asks for a port of TCP", "need l4.dport == 80\nsend port"),
+        ("if ipv4.ttl - 5 < 0 { drop }\nsend port", "1:19: no number is below 0", "ask x < 5 before x - 5", "if ipv4.ttl < 5 { drop }\nsend port"),
+        ("if vlan.vid >= 0 { drop }\nsend port", "1:16: every number is at least 0", "if vlan { .. } asks for the header", "if vlan { drop }\nsend port"),
+        ("const WEB = 80\nif WEB { ipv4.tos = 1 }\nsend port", "2:4: WEB alone is a condition that never changes", "x == WEB compares x with it",
+         "const WEB = 80\nif tcp.dport == WEB { ipv4.tos = 1 }\nsend port"),
+        ("let x = ipv4.ttl << 8 + ipv4.tos\nsend port", "1:21", "+ and - bind closer than <<: (x << 8) + y", "let x = (ipv4.ttl << 8) + ipv4.tos\nsend port"),
         ("need ip.src == 10.0.0.1\nsend port", "1:6: there is no header ip", "did you mean ipv4?", "need ipv4.src == 10.0.0.1\nsend port"),
         ("need dns.id == 5\nsend port", "1:6", "header dns { a:8 } after udp if udp.dport == 7",
          "header dns { id:16 } after udp if udp.dport == 53\nneed dns.id == 5\nsend port"),
@@ -470,7 +491,7 @@ class Limits(unittest.TestCase):
             "more than 40 parentheses": f"let x = {'(' * 6000}1{')' * 6000}\nsend x",
             "more than 40 parentheses and `not`": f"need {'not ' * 20_000}eth\nsend port",
             "more than 40 parentheses and ~": f"let x = {'~' * 20_000}port\nsend x",
-            "more than 1,024 `else if`": "if port == 9 { drop }" + "".join(f" else if eth.type == {k} {{ drop }}" for k in range(20_000)),
+            "more than 1,024 `else if`": "if port == 7 { drop }" + "".join(f" else if eth.type == {k} {{ drop }}" for k in range(20_000)),
             "more than 40 blocks": "if eth.type == 5 { " * 5000 + "drop" + " }" * 5000,
             "a list has at most 1,024 items": f"need ipv4.src in {{{', '.join(addresses)}}}\nsend port",
             "more than 1,024 operators": f"need {' or '.join(f'ipv4.src == {it}' for it in addresses)}\nsend port",
@@ -706,6 +727,15 @@ class Programs(unittest.TestCase):
             value = {"+": 0 + 1 + 2, "-": -(0 + 1 + 2), "^": 0 ^ 1 ^ 2, "|": 0 | 1 | 2, "&": 0}[sign] & (1 << 48) - 1
             wanted = (5 * 0x800 + 10).to_bytes(6, "big") + value.to_bytes(6, "big") + frame[12:]
             self.assertEqual(sent(source, frame)[0], [wanted], sign)
+
+    def test_what_a_constant_may_be(self) -> None:
+        """Comparisons and masks with constants that do leave a choice."""
+        for source in ("need ipv4.src & 255.255.255.0 == 10.0.0.0", "need ~tcp.flags & 2", "vlan.vid &= 0xff00", "const OFF = 0\nneed not ipv4.tos & OFF",
+                       "const LEAST = 0\nneed ipv4.ttl >= LEAST", "need ipv4.ttl in 0..9", "need ipv4.src in 0.0.0.0/0", "need ipv4.ttl + 1 == 256",
+                       "need 0 < ipv4.ttl and ipv4.tos <= 0", "const LEVEL = 4\nif LEVEL & 4 { ipv4.tos = 1 }", "need port == 7", "need ~ipv4.tos == ~3",
+                       "need ipv4.ttl * 4 + 3 == 1023 and ipv4.tos | 4 == 7", "let x = 0 - 1\nneed x == ~0", "need (ipv4.src ^ ipv4.dst) & 1"):
+            with self.subTest(source):
+                self.assertGreater(count(source + "\nsend port"), 0)
 
     def test_constants_switch_off_what_is_behind_and_and_or(self) -> None:
         web, mail = tcp(2, 80), tcp(2, 25)

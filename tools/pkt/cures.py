@@ -109,8 +109,13 @@ FIELDS = {
     "dport": "dst_port dstport", "op": "oper opcode", "window": "win", "tos class": "tos dscp tc traffic_class", "flow": "flowlabel flow_label fl",
     "ihl off": "hdrlen hlen doff data_offset", "frag": "frag_off fragoffset offset", "urgent": "urg_ptr urgptr", "bottom": "s bos",
 }  # fmt: skip
-# Bits that others give names of their own, and other numbers with names.
+# Bits that others give names of their own.
 BITS = {"tcp": {"fin": 1, "syn": 2, "rst": 4, "psh": 8, "ack": 16, "urg": 32, "ece": 64, "cwr": 128}, "ipv4": {"mf": 1, "df": 2}}
+# What the bits of a field are, for a mask that has none of them.
+MASKED = {
+    "tcp.flags": "1 is FIN, 2 SYN, 4 RST, 8 PSH and 16 ACK", "ipv4.flags": "1 says that more fragments follow, and 2 forbids them",
+    "ipv4.frag": "ipv4.pieces has the bit for more fragments too: need ipv4.pieces == 0",
+}  # fmt: skip
 NUMBERS = {
     **BITS["tcp"], **{f"tcp_{name}": value for name, value in BITS["tcp"].items()}, "ipproto_icmp": 1, "ipproto_tcp": 6, "ipproto_udp": 17, "ipproto_gre": 47,
     "ipproto_icmpv6": 58, "eth_p_ip": 0x0800, "eth_p_arp": 0x0806, "eth_p_ipv6": 0x86DD, "eth_p_8021q": 0x8100, "http": 80, "https": 443, "ssh": 22,

@@ -14,6 +14,7 @@ from .syntax import (
     BIGGEST, PORT, PRIME, THIS, And, Assign, Binary, Block, Chain, Clone, Compare, Count, Cut, Drop, Field, Found, Free, If, Inline, Length, Let, Lookup, Mend,
     Name, Need, New, Node, Not, Number, Numeric, Or, Path, Place, Pop, Push, Pushed, Row, Send, SourceError, Truncate, While, Wide, goes_on, parts, require,
 )
+from .values import require_can_be, require_leaves, require_open, require_unsigned
 
 OPERATORS = {
     "+": operator.add, "-": operator.sub, "*": operator.mul, "<<": operator.lshift, ">>": operator.rshift,
@@ -172,7 +173,9 @@ def combined(sign: str, left: Node, right: Node) -> Node:
     """An operation, evaluated at once if both sides are constant."""
     left, right = as_number(left), as_number(right)
     by = right.value if isinstance(right, Number) else None
-    require(sign not in ("<<", ">>") or by is not None and by < 64, right.at, "a shift goes by a constant from 0 to 63", EACH if by is None else "")
+    is_sum = isinstance(right, Binary) and right.sign in "+-"
+    cure = f"+ and - bind closer than {sign}: (x {sign} 8) + y" if is_sum else EACH if by is None else ""
+    require(sign not in ("<<", ">>") or by is not None and by < 64, right.at, "a shift goes by a constant from 0 to 63", cure)
     require(sign != "*" or isinstance(left, Number) or by is not None, right.at, "one side of a product is a constant", EACH)
     if isinstance(left, Number) and by is not None:
         value = OPERATORS[sign](left.value, by)
@@ -230,7 +233,15 @@ class Parser(Lexer):
 
     def condition(self) -> Node:
         """A condition."""
-        return as_condition(self.operation())
+        at, node = self.place(), self.operation()
+        is_alone = isinstance(node, Number) and node.value > 1 and self.words[self.next - 1][1] == at
+        require(not is_alone, at, f"{at.word} alone is a condition that never changes", f"x == {at.word} compares x with it; 1 always holds, and 0 never")
+        return self.as_condition(node)
+
+    def as_condition(self, node: Node) -> Node:
+        """A condition of the text, which does not hold for every number."""
+        require_open(node, self.headers)
+        return as_condition(node)
 
     def number(self) -> Node:
         """A number."""
@@ -262,7 +273,7 @@ class Parser(Lexer):
             return self.operand()
         if level == NOT and self.sees("not"):
             with self.nested("parentheses and `not`"):
-                return Not(self.take(), as_condition(self.operation(level)))
+                return Not(self.take(), self.as_condition(self.operation(level)))
         node, count = self.operation(level + 1), 0
         while self.sees(*LEVELS[level]):
             count += 1
@@ -274,8 +285,13 @@ class Parser(Lexer):
             if sign == "in":
                 node = self.items(as_side(node))
             else:
-                node = self.joined(sign, node, self.operation(level + 1)) if level < NUMBERS else combined(sign, node, self.operation(level + 1))
+                node = (self.joined if level < NUMBERS else self.calculated)(sign, node, self.operation(level + 1))
         return node
+
+    def calculated(self, sign: str, left: Node, right: Node) -> Node:
+        """An operation of the text, of which something is left."""
+        require_leaves(sign, left, right, self.headers)
+        return combined(sign, left, right)
 
     def count_operators(self, number: int) -> None:
         """Refuses more operators and items of lists in all than any program has."""
@@ -295,13 +311,14 @@ class Parser(Lexer):
     def joined(self, sign: str, left: Node, right: Node) -> Node:
         """A comparison or two conditions joined by a word."""
         if sign in COMPARISONS:
+            require_unsigned(sign, left, right)
             return self.compared(sign, left, right)
         for side in (left, right):
             # A constant with a name, of 0 or 1, may switch a part off.
             is_switch = isinstance(side, Number) and side.value < 2 and self.names.get(side.at.word) in ("a constant", "a parameter")
             is_open = not isinstance(side, Number) or is_switch
             require(is_open, side.at, f"{side.at.word} alone is a condition that never changes", "x in {1, 2} compares x with each")
-        return (And if sign == "and" else Or)(left.at, as_condition(left), as_condition(right))
+        return (And if sign == "and" else Or)(left.at, self.as_condition(left), self.as_condition(right))
 
     def items(self, left: Node) -> Node:
         """The items after `in`: a comparison for each."""
@@ -389,6 +406,7 @@ class Parser(Lexer):
         """A comparison of sides that fit one another."""
         self.require_fits(left, right)
         self.require_fits(right, left)
+        require_can_be(sign, left, right, self.headers)
         return compared(sign, left, right)
 
     def operand(self) -> Node:
@@ -752,6 +770,7 @@ class Parser(Lexer):
         require(target != Name(at, PORT), at, "port is where the packet came from, and is not assigned to", "let x = port")
         if sign.word != "&=":
             self.require_fits(target, value)
+        require_leaves(sign.word[:-1], target, value, self.headers)
         return (kind(at, target, value if sign.word == "=" else added(sign.word[:-1], target, value)),)
 
     def program(self) -> Program:
