@@ -410,6 +410,12 @@ class Slips(unittest.TestCase):
         ("const WEB = 80\nif WEB { ipv4.tos = 1 }\nsend port", "2:4: WEB alone is a condition that never changes", "x == WEB compares x with it",
          "const WEB = 80\nif tcp.dport == WEB { ipv4.tos = 1 }\nsend port"),
         ("let x = ipv4.ttl << 8 + ipv4.tos\nsend port", "1:21", "+ and - bind closer than <<: (x << 8) + y", "let x = (ipv4.ttl << 8) + ipv4.tos\nsend port"),
+        ("if tcp.dport != 80 or tcp.dport != 443 { drop }\nsend port", "1:36: each number is other than 80 or other than 443",
+         "x != 80 and x != 443, or not x in {80, 443}", "if tcp.dport != 80 and tcp.dport != 443 { drop }\nsend port"),
+        ("if not ipv4.proto == 6 or not ipv4.proto == 17 { drop }\nsend port", "1:45: each number is other", "not x in {6, 17}",
+         "if not ipv4.proto in {6, 17} { drop }\nsend port"),
+        ("need ipv4 and 80 == tcp.dport and tcp.dport == 443\nsend port", "1:48: no number is 80 and 443", "x == 80 or x == 443, or x in {80, 443}",
+         "need ipv4 and tcp.dport in {80, 443}\nsend port"),
         ("need ip.src == 10.0.0.1\nsend port", "1:6: there is no header ip", "did you mean ipv4?", "need ipv4.src == 10.0.0.1\nsend port"),
         ("need dns.id == 5\nsend port", "1:6", "header dns { a:8 } after udp if udp.dport == 7",
          "header dns { id:16 } after udp if udp.dport == 53\nneed dns.id == 5\nsend port"),
@@ -733,7 +739,8 @@ class Programs(unittest.TestCase):
         for source in ("need ipv4.src & 255.255.255.0 == 10.0.0.0", "need ~tcp.flags & 2", "vlan.vid &= 0xff00", "const OFF = 0\nneed not ipv4.tos & OFF",
                        "const LEAST = 0\nneed ipv4.ttl >= LEAST", "need ipv4.ttl in 0..9", "need ipv4.src in 0.0.0.0/0", "need ipv4.ttl + 1 == 256",
                        "need 0 < ipv4.ttl and ipv4.tos <= 0", "const LEVEL = 4\nif LEVEL & 4 { ipv4.tos = 1 }", "need port == 7", "need ~ipv4.tos == ~3",
-                       "need ipv4.ttl * 4 + 3 == 1023 and ipv4.tos | 4 == 7", "let x = 0 - 1\nneed x == ~0", "need (ipv4.src ^ ipv4.dst) & 1"):
+                       "need ipv4.ttl * 4 + 3 == 1023 and ipv4.tos | 4 == 7", "let x = 0 - 1\nneed x == ~0", "need (ipv4.src ^ ipv4.dst) & 1",
+                       "const A = 5\nconst B = 5\nneed ipv4.ttl != A or ipv4.ttl != B", "need ipv4.ttl != 5 or ipv4.tos != 6", "need ipv4.ttl == 5 or ipv4.ttl == 6"):
             with self.subTest(source):
                 self.assertGreater(count(source + "\nsend port"), 0)
 

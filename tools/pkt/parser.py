@@ -14,7 +14,7 @@ from .syntax import (
     BIGGEST, PORT, PRIME, THIS, And, Assign, Binary, Block, Chain, Clone, Compare, Count, Cut, Drop, Field, Found, Free, If, Inline, Length, Let, Lookup, Mend,
     Name, Need, New, Node, Not, Number, Numeric, Or, Path, Place, Pop, Push, Pushed, Row, Send, SourceError, Truncate, While, Wide, goes_on, parts, require,
 )
-from .values import require_can_be, require_leaves, require_open, require_unsigned
+from .values import require_can_be, require_choice, require_leaves, require_open, require_unsigned
 
 OPERATORS = {
     "+": operator.add, "-": operator.sub, "*": operator.mul, "<<": operator.lshift, ">>": operator.rshift,
@@ -318,6 +318,7 @@ class Parser(Lexer):
             is_switch = isinstance(side, Number) and side.value < 2 and self.names.get(side.at.word) in ("a constant", "a parameter")
             is_open = not isinstance(side, Number) or is_switch
             require(is_open, side.at, f"{side.at.word} alone is a condition that never changes", "x in {1, 2} compares x with each")
+        require_choice(sign, left, right)
         return (And if sign == "and" else Or)(left.at, self.as_condition(left), self.as_condition(right))
 
     def items(self, left: Node) -> Node:

@@ -4,7 +4,7 @@ import ipaddress
 from .cures import MASKED
 from .headers import Headers
 from .reach import BIGGEST, Value, exactly
-from .syntax import PORT, Binary, Field, Name, Node, Number, SourceError, require
+from .syntax import PORT, And, Binary, Compare, Field, Name, Node, Not, Number, Or, SourceError, require
 
 # How far operators that lie in one another are looked at, and the greatest number that `port` is.
 MAX_DEPTH, MAX_PORT = 40, 7
@@ -79,6 +79,28 @@ def require_unsigned(sign: str, left: Node, right: Node) -> None:
         header = f"; if {other.header} {{ .. }} asks for the header" if isinstance(other, Field) else ""
         fault = "no number is below 0" if sign == "<" else "every number is at least 0"
         raise SourceError(zero.at, fault, f"numbers are unsigned: ask x < 5 before x - 5{header}")
+
+
+def test_of(it: Node) -> tuple[str, Node, Number] | None:
+    """The sign, the number and the constant of a condition that is a number's being, or not being, a constant."""
+    if isinstance(it, Not):
+        inner = test_of(it.condition)
+        return ("==" if inner[0] == "!=" else "!=", *inner[1:]) if inner else None
+    if not isinstance(it, Compare) or it.sign not in ("==", "!="):
+        return None
+    left, right = (it.right, it.left) if isinstance(it.left, Number) else (it.left, it.right)
+    return (it.sign, left, right) if isinstance(right, Number) else None
+
+
+def require_choice(word: str, left: Node, right: Node) -> None:
+    """Refuses x != 1 or x != 2, of which one always holds, and x == 1 and x == 2."""
+    one, other = test_of(left.right if isinstance(left, And if word == "and" else Or) else left), test_of(right)
+    sign = "==" if word == "and" else "!="
+    if one and other and one[0] == other[0] == sign and one[1] == other[1] and one[2].value != other[2].value:
+        first, second = one[2].at.word, other[2].at.word
+        fault = f"no number is {first} and {second}" if sign == "==" else f"each number is other than {first} or other than {second}"
+        cure = f"x {sign} {first} {'or' if word == 'and' else 'and'} x {sign} {second}, or {'' if word == 'and' else 'not '}x in {{{first}, {second}}}"
+        raise SourceError(other[2].at, fault, cure)
 
 
 def cure_of_never(left: Node, right: Number, value: Value, headers: Headers) -> str:
