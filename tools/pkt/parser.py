@@ -927,8 +927,13 @@ class Parser(Lexer):
         header = Header(at.word, at)
         self.fields(header)
         self.headers[at.word] = header
+        said = set[str]()
         while self.sees("after", "length", "next", "sum"):
-            CLAUSES[self.take().word](self, header)
+            clause = self.take()
+            is_new = clause.word == "after" or clause.word not in said
+            require(is_new, clause, f"{at.word} has `{clause.word}` already", "one of each is enough: a second header for the same bytes has another one")
+            said.add(clause.word)
+            CLAUSES[clause.word](self, header)
         header.depth = 1 + max((self.headers[other].depth for other in header.follows), default=0)
         require(header.depth <= MAX_HEADERS, at, f"more than {MAX_HEADERS} headers follow one another", "declare several of them as one header")
         check(header, self.headers)
@@ -973,6 +978,8 @@ class Parser(Lexer):
     def clause_after(self, header: Header) -> None:
         other = self.header_name()
         require(other.word != header.name, other, "a header does not follow itself", "declare a second one with another name")
+        cure = f"after {other.word} if {other.word}.{next(iter(self.headers[other.word].fields))} == 1 or .. has all its conditions"
+        require(other.word not in header.follows, other, f"{header.name} follows {other.word} already", cure)
         self.take("if")
         header.follows[other.word] = self.condition()
 
