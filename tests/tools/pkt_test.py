@@ -420,6 +420,11 @@ class Slips(unittest.TestCase):
          "after udp if udp.sport == 1 or ..", "header h { a:8 } after udp if udp.dport == 7 or udp.dport == 8\nneed h\nsend port"),
         ("header h { a:16 b:16 } after udp if udp.dport == 7 sum a sum b\nsend port", "1:58: h has `sum` already", "a second header for the same bytes",
          "header h { a:16 b:16 } after udp if udp.dport == 7 sum a\nheader h2 { a:16 b:16 } after udp if udp.dport == 7 sum b\nsend port"),
+        ("need ipv4 else\nsend port", "2:1: this belongs to the `else` in line 1", "else { .. }", "need ipv4 else { send port }"),
+        ("if ipv4 {\n  if udp { drop } else\n  udp.sport = 5\n}\nsend port", "3:3: this belongs to the `else` in line 2", "the line of `else`",
+         "if ipv4 {\n  if tcp { drop } else\n    ipv4.tos = 5\n}\nsend port"),
+        ("if tcp { drop } else\n    eth.src = 1\n    eth.dst = 2\nsend port", "3:5: this does not belong to the `else` in line 1", "else { .. }",
+         "if tcp { drop } else {\n    eth.src = 1\n    eth.dst = 2\n}\nsend port"),
         ("need ip.src == 10.0.0.1\nsend port", "1:6: there is no header ip", "did you mean ipv4?", "need ipv4.src == 10.0.0.1\nsend port"),
         ("need dns.id == 5\nsend port", "1:6", "header dns { a:8 } after udp if udp.dport == 7",
          "header dns { id:16 } after udp if udp.dport == 53\nneed dns.id == 5\nsend port"),
@@ -737,6 +742,14 @@ class Programs(unittest.TestCase):
             value = {"+": 0 + 1 + 2, "-": -(0 + 1 + 2), "^": 0 ^ 1 ^ 2, "|": 0 | 1 | 2, "&": 0}[sign] & (1 << 48) - 1
             wanted = (5 * 0x800 + 10).to_bytes(6, "big") + value.to_bytes(6, "big") + frame[12:]
             self.assertEqual(sent(source, frame)[0], [wanted], sign)
+
+    def test_else_in_the_line_before(self) -> None:
+        """Layouts of `else` that say what the text means."""
+        for source in ("need ipv4 else\n  drop", "need ipv4\nelse drop", "need ipv4 else # why\n\n    drop # so", "if ipv4 { drop } else\nif ipv6 { drop }",
+                       "need ipv4 else\n{ drop }", "if tcp { drop } else\n    eth.src = 1\neth.dst = 2", "if ipv4 {\n  need tcp else\n    drop\n  ipv4.tos = 1\n}",
+                       "def f() {\n  if tcp { drop } else\n    eth.src = 1\n}\nif ipv4 {\n    f()\n    eth.dst = 2\n}"):
+            with self.subTest(source):
+                self.assertGreater(count(source + "\nsend port"), 0)
 
     def test_what_a_constant_may_be(self) -> None:
         """Comparisons and masks with constants that do leave a choice."""

@@ -41,6 +41,7 @@ STATEMENTS: dict[str, tuple[type[Node], str]] = {
 
 # The cure where a constant is wanted, and a number is none.
 EACH = "if x == 1 { .. } else if x == 2 { .. } has a case for each number that matters"
+BRACED = "else { .. }"
 # The cures where the number of one of these is wanted.
 NUMBERED = {"table": "table ROUTES = 0, and let x = lookup ROUTES ipv4.dst", "pool": "pool CLONES = 1, and clone c from CLONES"}
 # What others call the packet as a whole.
@@ -216,7 +217,8 @@ def without_zeros(word: str) -> str:
 
 class Parser(Lexer):
     """Reads a text. `unknown` has the names that are not numbers. The names of a `def` have a `suffix` where it
-    is used, `active` are those that are being used."""
+    is used, `active` are those that are being used. `below` is the `else` whose one statement, in a later line, was just read,
+    and the blanks before that."""
 
     def __init__(self, text: str, headers: Headers, folder: File | None = None) -> None:
         super().__init__(text, headers)
@@ -230,6 +232,7 @@ class Parser(Lexer):
         self.depth = self.statements = self.operators = 0
         self.given: set[str] = set()
         self.looked_up = ""
+        self.below: tuple[Place, str] | None = None
 
     def condition(self) -> Node:
         """A condition."""
@@ -556,12 +559,38 @@ class Parser(Lexer):
             with self.nested("blocks"):
                 while not self.may("}"):
                     found += self.statement(tuple(found[-2:]))
+            self.below = None
         self.names = outside
         return tuple(found)
 
     def fallback(self) -> Block | None:
-        """An `else` part."""
-        return self.block(may_be_one=True) if self.may("else") else None
+        """An `else` part. A statement without braces in a later line stands further to the right, and the next one does not stand below it."""
+        before = self.place()
+        if not self.may("else"):
+            return None
+        at, is_one = self.place(), not self.sees("{")
+        margins = self.margin(before), self.margin(at)
+        is_below = is_one and self.kind != "end" and at.line > before.line
+        fault = f"this belongs to the `else` in {self.rows[before.line].place}, and does not stand further to the right"
+        require(not is_below or not margins[0].startswith(margins[1]), at, fault, f"write it in the line of `else`, or within braces: {BRACED}")
+        body = self.block(may_be_one=True)
+        self.below = (before, margins[1]) if is_below else None
+        return body
+
+    def margin(self, at: Place) -> str:
+        """The blanks at the begin of a word's line."""
+        text = self.rows[at.line].text
+        return text[: len(text) - len(text.lstrip())]
+
+    def refuse_below(self, at: Place) -> None:
+        """Refuses a statement that stands below one that alone belongs to an `else`."""
+        if self.below is not None:
+            before, margin = self.below
+            is_first = not self.rows[at.line].text[: at.column - 1].strip()
+            is_beside = is_first and at.line > before.line and self.margin(at) == margin
+            fault = f"this does not belong to the `else` in {self.rows[before.line].place}, and stands below what does"
+            require(not is_beside, at, fault, f"the `else` has one statement, or several within braces: {BRACED}")
+        self.below = None
 
     def other_block(self) -> Block:
         """An `else` part, which may be absent. The `if` after an `else`, and the one after its `else`, are read one after another."""
@@ -580,6 +609,7 @@ class Parser(Lexer):
     def statement(self, before: Block = ()) -> Block:
         """A statement: its first word gives its kind, and the table the syntax after it. An assignment to an IPv6 address is two."""
         at = self.place()
+        self.refuse_below(at)
         self.statements += 1
         require(self.statements <= MAX_STATEMENTS, at, f"more than {MAX_STATEMENTS:,} statements", "a program has at most 1,024 instructions")
         if self.starts("count"):
