@@ -404,6 +404,9 @@ class Parser(Lexer):
             span, name = self.span_of(it), f"{it.header}.{it.name}"
             cure = f"{value.value & span.largest} are its lowest {span.bits} bits"
             cure = "it is below 0, and was cut to 64 bits; a range has two points: x in 1..5" if value.wraps else cure
+            is_own = value.width != 32 or span.bits != 48
+            fault = f"{name} has 48 bits, and {value.at.word} is an IPv4 address of 32"
+            require(is_own, value.at, fault, "an Ethernet address has colons, as in 02:00:00:00:00:01")
             require(value.value <= span.largest, value.at, f"{name} has {span.bits} bits, and is at most {span.largest:,}: this is {value.value:,}", cure)
 
     def compared(self, sign: str, left: Node, right: Node) -> Node:
@@ -711,10 +714,20 @@ class Parser(Lexer):
             is_call = self.sees("(") and self.place(2).word == ","
             require(not is_call, self.place(), "the table is wanted here, and this is '('", LOOKUP)
             self.looked_up, outside = name, self.looked_up
-            found = Lookup(at, name, *self.slots("table number fallback"))
+            found = Lookup(at, name, *self.slots("table key fallback"))
             self.looked_up = outside
             return found
         return Let(at, name, self.number())
+
+    def key(self) -> Node:
+        """The number that is looked for in a table."""
+        number = self.operation(NUMBERS)
+        cure = "if ipv6.dst in 2001:db8::/32 { .. } else if .. has a case for each prefix"
+        require(not isinstance(number, Wide), number.at, "a table has addresses of 32 bits, and this one has 128", cure)
+        bits = self.span_of(number).bits if isinstance(number, Field) and not number.name.endswith("_lo") else 32
+        cure = "number & 0xffffffff is its last 32 bits, and number >> 32 are the first ones"
+        require(bits <= 32, number.at, f"a table has addresses of 32 bits, and this has {bits}", cure)
+        return as_number(number)
 
     def pushed(self) -> tuple[Pushed, ...]:
         """Pushed headers, with their fields."""
@@ -1049,6 +1062,7 @@ class Parser(Lexer):
 # What reads the parts of a statement (those that are missing are constants within limits), declarations, and the clauses of a header.
 SLOTS: dict[str, Callable[[Parser], object]] = {
     "condition": Parser.condition, "block": Parser.block, "other_block": Parser.other_block, "fallback": Parser.fallback, "number": Parser.number,
+    "key": Parser.key,
     "packet": Parser.packet, "packet_to": Parser.packet_to, "packet_held": Parser.packet_held, "packet_on": Parser.packet_on,
     "packet_first": Parser.packet_first, "pushed": Parser.pushed, "path": Parser.path, "kept": Parser.kept,
 }  # fmt: skip
