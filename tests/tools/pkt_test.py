@@ -1214,7 +1214,7 @@ class Reached(unittest.TestCase):
         self.assertEqual([it.word for it in reached(graph).states], ["iflen", "exit", "iflen", "exit"])
 
     def test_the_note(self) -> None:
-        source = "if ipv4.ttl < 5 {\n drop\n}\nlet a = ipv4.ttl\nif a < 5 {\n count low\n ipv4.tos = 1\n}\nsend port\n"
+        source = "if ipv4.ttl < 5 {\n drop\n}\nlet a = ipv4.ttl\nif a < 5 {\n count low\n eth.type = 1\n}\nsend port\n"
         self.assertEqual(compiled(source).note, "no packet reaches line 6 and line 7: 3 instructions are left out")
         self.assertEqual(compiled(source.replace("a < 5", "a < 6")).note, "")
         way = "let way = ipv4.src & 3\nsend way"
@@ -1226,6 +1226,29 @@ class Reached(unittest.TestCase):
             done = subprocess.run([sys.executable, TOP / "tools/pkt", path], capture_output=True, text=True)
         self.assertEqual((done.returncode, done.stdout), (0, compile_text(source, "x.pkt")))
         self.assertEqual(done.stderr, f"{path}: note: no packet reaches line 6 and line 7: 3 instructions are left out\n")
+
+
+    def test_notes_on_what_is_seldom_meant(self) -> None:
+        wanted = {
+            "ipv4.ttl -= 1": "line 1: ipv4.sum stays as it was; mend ipv4.ttl = .. updates what covers ipv4.ttl",
+            "eth.src = 5\nl4.dport = 80": "line 2: the checksum of TCP or UDP stays as it was; mend tcp.dport = .. updates that of TCP",
+            "set A = {10.1.2.3/8}\nneed ipv4.src in A and not ipv4.dst in A": "line 1: the bits of 10.1.2.3 after the first 8 do not count",
+            "need ipv6.src in 2001:db8::1/32": "line 1: the bits of 2001:db8::1 after the first 32 do not count",
+            "need ipv4.ttl - 5 > 0": "line 1: a difference is a great number where it would be below 0",
+            "clone c from 0": "line 1: c is never sent, and is dropped at the end of its block",
+            "def f() { new h from 0 push eth { } on h }\nf()": "line 1: h is never sent",
+            "def f() { fnord }": "line 1: f is used nowhere, so its block was not read",
+        }
+        for source, text in wanted.items():
+            with self.subTest(source):
+                self.assertTrue(compiled(source + "\nsend port").note.startswith(text), compiled(source + "\nsend port").note)
+        for source in ("mend ipv4.ttl -= 1", "ipv4.ttl -= 1\nipv4.sum = 0", "let a = ipv4.src\nipv4.src = ipv4.dst\nipv4.dst = a", "ipv6.hops -= 1",
+                       "need ipv4.src in 10.0.0.0/8", "need ipv4.src in 0.0.0.0/0", "need ipv4.ttl - 5 == 1", "clone c from 0\nsend c to 0",
+                       "new h from 0\npush eth { } on h\nchain h before this", "def f() { drop }\nif tcp { f() }", "clone c from 0\nfree c"):
+            with self.subTest(source):
+                self.assertEqual(compiled(source + "\nsend port").note, "")
+        rules = "".join(f"need not ipv4.src in 10.0.0.{k}/24\n" for k in range(1, 3)) + "".join(f"ipv4.tos = {k}\n" for k in range(20))
+        self.assertEqual(compiled(rules + "send port").note.splitlines()[-1], "12 notes more")
 
 
 class Names(unittest.TestCase):

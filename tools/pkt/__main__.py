@@ -49,8 +49,8 @@ def main() -> int:
     except SourceError as error:
         print(error_text(error, str(path), source), file=sys.stderr)
     else:
-        if note:
-            print(f"{path}: note: {note}", file=sys.stderr)
+        for it in note.splitlines():
+            print(f"{path}: note: {it}", file=sys.stderr)
         if is_filter:
             return made(text, source, path, words[1], words[2])
         return prove_text(source, text, path.parent, asked.rounds, asked.seconds) if asked else written(text)

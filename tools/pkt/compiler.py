@@ -5,6 +5,7 @@ from functools import lru_cache
 from typing import NamedTuple
 
 from .headers import Headers
+from .notes import notes_of
 from .parser import Parser, Program
 from .peephole import shorten
 from .reach import lines_unreached
@@ -44,7 +45,7 @@ def placed(error: SourceError, rows: list[Row]) -> SourceError:
 
 
 class Compiled(NamedTuple):
-    """A node program, and a note on what no packet reaches, if there is one."""
+    """A node program, and the notes on it, each in a line of its own: what no packet reaches, and what is seldom meant."""
 
     text: str
     note: str
@@ -56,15 +57,16 @@ def compile_text(source: str, name: str = "a text", folder: pathlib.Path | None 
 
 
 def compiled(source: str, name: str = "a text", folder: pathlib.Path | None = None, has_note: bool = True, segments: int = 1) -> Compiled:
-    """The node program of a text for packets of this number of segments, or what it declares if that is more, and the note if it is wanted; raises
-    SourceError."""
+    """The node program of a text for packets of this number of segments, or what it declares if that is more, and the notes if they are wanted;
+    raises SourceError."""
     program = parse(source, folder)
     program.segments = max(program.segments, segments)
     try:
         graph = compile_program(program)
-        note = "; ".join(filter(None, (note_of(lines_unreached(graph), program.rows), note_of_ports(program)))) if has_note else ""
+        notes = (note_of(lines_unreached(graph), program.rows), note_of_ports(program), *notes_of(program)) if has_note else ()
         shorten(graph, MAX_INSTRUCTIONS)
-        return Compiled(f"# Built from {printable(name)} by `dpv build`; docs/users/pkt.md has its language.\n" + write(graph, program.rows), note)
+        head = f"# Built from {printable(name)} by `dpv build`; docs/users/pkt.md has its language.\n"
+        return Compiled(head + write(graph, program.rows), "\n".join(filter(None, notes)))
     except SourceError as error:
         raise placed(error, program.rows) from None
 

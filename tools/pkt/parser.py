@@ -42,6 +42,8 @@ STATEMENTS: dict[str, tuple[type[Node], str]] = {
 # The cure where a constant is wanted, and a number is none.
 EACH = "if x == 1 { .. } else if x == 2 { .. } has a case for each number that matters"
 BRACED = "else { .. }"
+# The note on a difference that is compared.
+UNDER = "a difference is a great number where it would be below 0, as numbers are unsigned; x > 5 asks for what x - 5 > 0 seems to ask"
 # The cures where the number of one of these is wanted.
 NUMBERED = {"table": "table ROUTES = 0, and let x = lookup ROUTES ipv4.dst", "pool": "pool CLONES = 1, and clone c from CLONES"}
 # What others call the packet as a whole.
@@ -76,8 +78,9 @@ class Item(NamedTuple):
 
 
 class Function(NamedTuple):
-    """A `def`: its parameters, and where its block begins."""
+    """A `def`: its name, its parameters, and where its block begins."""
 
+    at: Place
     parameters: tuple[str, ...]
     begin: int
 
@@ -98,6 +101,7 @@ class Program:
     given: Path = ()
     statements: Block = ()
     rows: list[Row] = field(default_factory=list)
+    notes: dict[Place, str] = field(default_factory=dict)
 
     @property
     def is_for_ring(self) -> bool:
@@ -232,13 +236,15 @@ class Parser(Lexer):
         self.depth = self.statements = self.operators = 0
         self.given: set[str] = set()
         self.looked_up = ""
+        self.notes, self.used = dict[Place, str](), set[str]()
         self.below: tuple[Place, str] | None = None
 
     def condition(self) -> Node:
         """A condition."""
         at, node = self.place(), self.operation()
         is_alone = isinstance(node, Number) and node.value > 1 and self.words[self.next - 1][1] == at
-        require(not is_alone, at, f"{at.word} alone is a condition that never changes", f"x == {at.word} compares x with it; 1 always holds, and 0 never")
+        cure = f"x == {at.word} compares x with it; 1 always holds, and 0 never"
+        require(not is_alone, at, f"{at.word} alone is a condition that never changes", cure)
         return self.as_condition(node)
 
     def as_condition(self, node: Node) -> Node:
@@ -315,6 +321,8 @@ class Parser(Lexer):
         """A comparison or two conditions joined by a word."""
         if sign in COMPARISONS:
             require_unsigned(sign, left, right)
+            differences = [it for it in (left, right) if sign not in ("==", "!=") and isinstance(it, Binary) and it.sign == "-"]
+            self.notes |= {it.at: UNDER for it in differences if isinstance(it.right, Number)}
             return self.compared(sign, left, right)
         for side in (left, right):
             # A constant with a name, of 0 or 1, may switch a part off.
@@ -370,6 +378,7 @@ class Parser(Lexer):
             bits = self.prefix_bits(left, item.number)
             require(item.depth <= bits, item.at, f"the prefix has at most {bits} bits, and this is {item.depth}", "a prefix is as in 10.0.0.0/8")
             self.refuse_short(item, bits)
+            self.note_rest(item, bits)
             return in_prefix(left, item.number, item.depth, bits)
         return self.compared("==", left, item.number)
 
@@ -393,6 +402,15 @@ class Parser(Lexer):
         is_short = isinstance(value, Number) and not value.width and value.value and 0 < depth < bits and value.value >> bits - depth == 0
         fault = f"the first {depth} of {bits} bits of {item.number.at.word} are all 0"
         require(not is_short, item.number.at, fault, "a prefix begins with an address, as in 10.0.0.0/8, or has all its digits, as in 0x0a000000/8")
+
+    def note_rest(self, item: Item, bits: int) -> None:
+        """Notes a prefix whose constant has bits after its depth."""
+        number, depth = item.number, item.depth or 0
+        value = number.value if isinstance(number, Number) else 0
+        if isinstance(number, Wide) and isinstance(number.high, Number) and isinstance(number.low, Number):
+            value = number.high.value << 64 | number.low.value
+        if depth and value & (1 << bits - depth) - 1:
+            self.notes[number.at] = f"the bits of {number.at.word} after the first {depth} do not count"
 
     def span_of(self, it: Field) -> Span:
         """The bits of a field within its header."""
@@ -672,6 +690,7 @@ class Parser(Lexer):
             else:
                 lets.append(Let(value.at, word + self.suffix, as_number(value)))
         self.active.append(name)
+        self.used.add(name)
         self.next = function.begin
         body = self.block()
         self.active.pop()
@@ -830,7 +849,9 @@ class Parser(Lexer):
             require(at.word not in said & {"ports", "segments", "otherwise"}, at, f"{at.word} is declared twice", "one of them is enough")
             said.add(self.take().word)
             DECLARATIONS[at.word](self, program)
-        program.rows = self.rows
+        unused = [it for name, it in self.functions.items() if name not in self.used and self.rows[it.at.line].path is None]
+        self.notes |= {it.at: f"{it.at.word} is used nowhere, so its block was not read" for it in unused}
+        program.rows, program.notes = self.rows, self.notes
         return program
 
     def declares(self) -> bool:
@@ -886,7 +907,7 @@ class Parser(Lexer):
             require(is_new, name, f"{name.word} is {self.names.get(name.word, 'a parameter')} already", "take another name")
             parameters.append(name.word)
             self.comma_before(")")
-        self.functions[at.word] = Function(tuple(parameters), self.next)
+        self.functions[at.word] = Function(at, tuple(parameters), self.next)
         begin, depth = self.take("{"), 1
         while depth:
             require(self.kind != "end", begin, f"the block of {at.word} has no end", "a block ends with }")
@@ -974,7 +995,8 @@ class Parser(Lexer):
         while self.sees("after", "length", "next", "sum"):
             clause = self.take()
             is_new = clause.word == "after" or clause.word not in said
-            require(is_new, clause, f"{at.word} has `{clause.word}` already", "one of each is enough: a second header for the same bytes has another one")
+            cure = "one of each is enough: a second header for the same bytes has another one"
+            require(is_new, clause, f"{at.word} has `{clause.word}` already", cure)
             said.add(clause.word)
             CLAUSES[clause.word](self, header)
         header.depth = 1 + max((self.headers[other].depth for other in header.follows), default=0)

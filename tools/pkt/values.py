@@ -99,7 +99,8 @@ def require_choice(word: str, left: Node, right: Node) -> None:
     if one and other and one[0] == other[0] == sign and one[1] == other[1] and one[2].value != other[2].value:
         first, second = one[2].at.word, other[2].at.word
         fault = f"no number is {first} and {second}" if sign == "==" else f"each number is other than {first} or other than {second}"
-        cure = f"x {sign} {first} {'or' if word == 'and' else 'and'} x {sign} {second}, or {'' if word == 'and' else 'not '}x in {{{first}, {second}}}"
+        other_word, contrary = ("or", "") if word == "and" else ("and", "not ")
+        cure = f"x {sign} {first} {other_word} x {sign} {second}, or {contrary}x in {{{first}, {second}}}"
         raise SourceError(other[2].at, fault, cure)
 
 
@@ -115,7 +116,8 @@ def cure_of_never(left: Node, right: Number, value: Value, headers: Headers) -> 
             bits, depth = headers[header].fields[name].bits, mask.bit_count()
             if mask == ((1 << depth) - 1) << bits - depth and right.value >> bits == 0:
                 return f"{header}.{name} in {address(right.value & mask, bits)}/{depth} compares its first {depth} bits"
-    return f"its values are from {value.low:,} to {value.high:,}" + (f", and have no bits but {value.bits | ~value.mask & BIGGEST:#x}" if value.mask else "")
+    bits = f", and have no bits but {value.bits | ~value.mask & BIGGEST:#x}" if value.mask else ""
+    return f"its values are from {value.low:,} to {value.high:,}{bits}"
 
 
 def address(value: int, bits: int) -> str:
