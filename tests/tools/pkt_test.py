@@ -1234,6 +1234,7 @@ class Reached(unittest.TestCase):
             "eth.src = 5\nl4.dport = 80": "line 2: the checksum of TCP or UDP stays as it was; mend tcp.dport = .. updates that of TCP",
             "set A = {10.1.2.3/8}\nneed ipv4.src in A and not ipv4.dst in A": "line 1: the bits of 10.1.2.3 after the first 8 do not count",
             "need ipv6.src in 2001:db8::1/32": "line 1: the bits of 2001:db8::1 after the first 32 do not count",
+            "need ipv4.frag & 0x3fff == 0": "line 1: ipv4.frag has 13 bits, and 0x3fff has more; ipv4.pieces has the bit for more fragments",
             "need ipv4.ttl - 5 > 0": "line 1: a difference is a great number where it would be below 0",
             "clone c from 0": "line 1: c is never sent, and is dropped at the end of its block",
             "def f() { new h from 0 push eth { } on h }\nf()": "line 1: h is never sent",
@@ -1242,7 +1243,7 @@ class Reached(unittest.TestCase):
         for source, text in wanted.items():
             with self.subTest(source):
                 self.assertTrue(compiled(source + "\nsend port").note.startswith(text), compiled(source + "\nsend port").note)
-        for source in ("mend ipv4.ttl -= 1", "ipv4.ttl -= 1\nipv4.sum = 0", "let a = ipv4.src\nipv4.src = ipv4.dst\nipv4.dst = a", "ipv6.hops -= 1",
+        for source in ("need tcp.flags & ~2 == 0", "const M = 0xffff\nneed vlan.vid & M", "mend ipv4.ttl -= 1", "ipv4.ttl -= 1\nipv4.sum = 0", "let a = ipv4.src\nipv4.src = ipv4.dst\nipv4.dst = a", "ipv6.hops -= 1",
                        "need ipv4.src in 10.0.0.0/8", "need ipv4.src in 0.0.0.0/0", "need ipv4.ttl - 5 == 1", "clone c from 0\nsend c to 0",
                        "new h from 0\npush eth { } on h\nchain h before this", "def f() { drop }\nif tcp { f() }", "clone c from 0\nfree c"):
             with self.subTest(source):

@@ -7,7 +7,7 @@ from dataclasses import dataclass, field, replace
 from pathlib import Path as File
 from typing import NamedTuple
 
-from .cures import ALONE, BITS, CURES, FIELD, LOOKUP, WANTED, cure_of, meant, number_meant
+from .cures import ALONE, BITS, CURES, FIELD, LOOKUP, MASKED, WANTED, cure_of, meant, number_meant
 from .headers import Header, Headers, Span, check
 from .lexer import RESERVED, Lexer, require_word
 from .syntax import (
@@ -300,6 +300,11 @@ class Parser(Lexer):
     def calculated(self, sign: str, left: Node, right: Node) -> Node:
         """An operation of the text, of which something is left."""
         require_leaves(sign, left, right, self.headers)
+        it, mask = (right, left) if isinstance(right, Field) else (left, right)
+        if sign == "&" and isinstance(it, Field) and isinstance(mask, Number) and mask.value > self.span_of(it).largest:
+            name, is_written = f"{it.header}.{it.name}", mask.at.word.lower() in (str(mask.value), f"{mask.value:#x}")
+            more = f"{name} has {self.span_of(it).bits} bits, and {mask.at.word} has more; {MASKED.get(name, 'those are always 0')}"
+            self.notes |= {mask.at: more} if is_written else {}
         return combined(sign, left, right)
 
     def count_operators(self, number: int) -> None:
