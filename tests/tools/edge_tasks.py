@@ -301,10 +301,29 @@ def guest(data: bytes) -> Iterator[Sent]:
             yield 0, data
 
 
+def score(data: bytes) -> Iterator[Sent]:
+    """Marks for what attacks have in common."""
+    (kind, at), (proto, top), marks, door = network(data, True), transport(data, True), 0, 0
+    if kind == 0x0800:
+        marks += 100 * (data[at + 12 : at + 16] == data[at + 16 : at + 20]) + 10 * (data[at + 8] < 5)
+        marks += 20 * (data[at] & 15 > 5) + 15 * (number(data, at + 6, 2) & 0x3FFF > 0)
+    elif kind == 0x86DD:
+        marks += 10 * (data[at + 7] < 5)
+    if proto in (6, 17):
+        door = number(data, top + 2, 2)
+    if proto == 6:
+        marks += 50 * (data[top + 13] & 3 == 3) + 5 * (number(data, top + 14, 2) == 0)
+    elif proto == 17:
+        marks += 5 * (number(data, top + 6, 2) == 0) + 60 * (number(data, top + 4, 2) < 8)
+    marks += 3 * (1 if door in (22, 23, 3389) else 2 if 1 <= door <= 1023 else 3 if door else 0)
+    if marks < 35:
+        yield int(marks >= 15), data
+
+
 TASKS: dict[str, Callable[[bytes], Iterable[Sent]]] = {
     it.__name__: it for it in (
         vlan_map, ext_filter, mss6, groups, ping_both, near_only, http_words, congested, pieces, napt, npt6, ra_guard, wire_out, wire_in, trunk, geneve_in,
-        snap, guest,
+        snap, guest, score,
     )
 }  # fmt: skip
 

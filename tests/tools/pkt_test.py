@@ -33,6 +33,7 @@ from pkt.prove.command import unreached
 from pkt.reach import BIGGEST, Value, leave_out, reached
 from pkt.state import SOMEBODY, SOMEBODY_THE_REST, Packet, State
 from pkt.syntax import Compare, Field, Number, SourceError
+from pkt.ways import Unit, Way
 
 PRELUDE = (TOP / "tools/pkt/prelude.pkt").read_text()
 ROUTES = {(0x0A000000, 8): 1, (0xC0000200, 24): 0}
@@ -648,6 +649,33 @@ class Layout(unittest.TestCase):
         again = "if ipv4.ttl == 64 { ipv4.tos = 1 }\nif vlan.vid == 7 { drop }\nsend port"
         few = "".join(rules.splitlines(keepends=True)[:4])
         self.assertEqual(len(sent("if port == 1 { if vlan { } }\n" + few + again, *given)[0]), 18)
+
+    def test_variables_in_other_registers_share_what_follows(self) -> None:
+        head = """if qinq {}
+if vlan {}
+let a = 0
+let p = 0
+if ipv4 { a = ipv4.dst }
+if tcp { p = tcp.dport } else if udp { p = udp.dport }
+"""
+        rules = [f"if a == 192.0.2.{k} and p == {k} {{ drop }}\n" for k in range(20)]
+        sizes = [count(head + "".join(rules[:number]) + "send port") for number in (10, 20)]
+        self.assertLessEqual(sizes[1] - sizes[0], 30)
+        frames = [tcp(2, port, options, dst=f"192.0.2.{end}") for port, end in ((7, 7), (7, 8), (19, 19)) for options in (b"", bytes(8))]
+        given = [change(it) for it in frames for change in (lambda it: it, tagged, lambda it: tagged(it, 5, 0x88A8), lambda it: tagged(tagged(it), 5, 0x88A8))]
+        self.assertEqual(sent(head + "".join(rules) + "send port", *given)[0], given[8:16])
+
+    def test_registers_are_moved_in_an_order_that_keeps_their_numbers(self) -> None:
+        for before, after, moves in (({"a": 1, "b": 2, "c": 3}, {"a": 2, "b": 3, "c": 4}, ["r4,r3", "r3,r2", "r2,r1"]),
+                                     ({"a": 1, "b": 2}, {"a": 2, "b": 1}, []), ({"a": 1, "b": 2}, {"a": 1, "b": 2}, [])):
+            first = Instruction()
+            way = Way(unit=Unit(parse("send port")), last=first, variables=before, bounds={r: 10 + r for r in range(8)})
+            way.move_to(after)
+            found, it = list[str](), first.next
+            while it is not None:
+                found, it = [*found, ",".join(it.operands)], it.next
+            self.assertEqual((found, way.variables), (moves, after if moves else before))
+            self.assertEqual([way.bounds[r] for r in way.variables.values()], [11, 12, 13][: len(before)])
 
     def test_a_header_is_not_looked_for_early_where_that_matters(self) -> None:
         rules = "if ipv4.dst == 1.2.3.4 and udp.dport == 53 { drop }\n"

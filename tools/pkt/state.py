@@ -20,6 +20,8 @@ SOMEBODY, SOMEBODY_THE_REST = -1, -2
 MAX_KNOWN = 1_024
 # Where a header begins that is at the offset in the register.
 FAR = Start(True, 0)
+# The name of the offset among the variables.
+OFFSET = "$offset"
 # The factors by which instructions with a count change the headroom of a packet and the length of its first segment.
 MOVES = {"prepend": (-1, 1), "adj": (1, -1), "append": (0, 1), "trim": (0, -1)}
 
@@ -90,8 +92,12 @@ class State:
         return other
 
     def signature(self) -> tuple[object, ...]:
-        """The part of the state that must be equal where paths join."""
-        return *(frozenset(it.items()) for it in (self.held, self.found, self.variables)), self.far.padding, self.far.base, self.far.register
+        """The part of the state that must be equal where paths join, and no moves make equal."""
+        return *(frozenset(it.items()) for it in (self.held, self.found)), frozenset(self.registers()), self.far.padding, self.far.base
+
+    def registers(self) -> dict[str, int]:
+        """The registers of the variables, and of the offset."""
+        return self.variables | ({OFFSET: self.far.register} if self.far.register is not None else {})
 
     def know(self, register: int, **news: object) -> None:
         """Sets the facts about a packet."""

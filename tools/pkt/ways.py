@@ -3,14 +3,14 @@ from __future__ import annotations
 
 from collections import Counter, defaultdict
 from collections.abc import Callable, Iterable, Iterator, Set
-from dataclasses import dataclass, field
+from dataclasses import dataclass, field, replace
 from functools import cache, cached_property
 from typing import Any, Generic, Self, TypeVar
 
 from .graph import Instruction
 from .headers import Headers, Span
 from .parser import Program
-from .state import EVERYTHING, NOTHING, Needs, State
+from .state import EVERYTHING, NOTHING, OFFSET, Needs, State
 from .syntax import THIS, Assign, Field, Found, If, Mend, Name, Need, Node, Place, Pop, Push, children, parts, require
 
 # Limits of a program before it is shortened: far beyond any that fits afterwards.
@@ -172,10 +172,11 @@ class Join(Generic[W]):
 
     def begin(self) -> Iterator[W]:
         """A path for each kind of state that arrives here, with the facts that these have in common."""
-        groups: dict[object, list[W]] = defaultdict(list)
+        firsts, groups = dict[object, W](), defaultdict[object, list[W]](list)
         for way in self.ways:
             way.forget(self.needs)
-            groups[way.signature()].append(way)
+            way.move_to(firsts.setdefault(way.signature(), way).registers())
+            groups[way.signature(), frozenset(way.registers().items())].append(way)
         for first, *others in groups.values():
             if len(self.ways) > 1:
                 first.unite(others)
@@ -249,6 +250,20 @@ class Way(State):
         self.last = label
         for way in others:
             self.join(way)
+
+    def move_to(self, registers: dict[str, int]) -> None:
+        """Moves the variables and the offset to other registers, unless some would have to change places."""
+        left, moves = {name: (r, registers[name]) for name, r in self.registers().items() if r != registers[name]}, dict[str, tuple[int, int]]()
+        while free := [name for name, (_, to) in left.items() if to not in {r for r, _ in left.values()}]:
+            moves[free[0]] = left.pop(free[0])
+        for name, (r, to) in ({} if left else moves).items():
+            self.emit("mov", f"r{to}", f"r{r}")
+            self.loaded = {it: other for it, other in self.loaded.items() if other != to}
+            self.bounds[to] = self.bounds[r]
+            if name == OFFSET:
+                self.far = replace(self.far, register=to)
+            else:
+                self.variables[name] = to
 
     def put(self, packet: int, at: int, data: bytes, register: int) -> None:
         """Constant bytes of a packet. They are written before the next instruction, together with those beside them."""
