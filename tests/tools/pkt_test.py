@@ -777,6 +777,9 @@ class Programs(unittest.TestCase):
             value = {"+": 0 + 1 + 2, "-": -(0 + 1 + 2), "^": 0 ^ 1 ^ 2, "|": 0 | 1 | 2, "&": 0}[sign] & (1 << 48) - 1
             wanted = (5 * 0x800 + 10).to_bytes(6, "big") + value.to_bytes(6, "big") + frame[12:]
             self.assertEqual(sent(source, frame)[0], [wanted], sign)
+        for sign, value in (("+", 9 - 1 + 7 - 3 + 2), ("-", -(9 - 1 + 7 - 3 + 2))):
+            source = f"{head}let s = 64\ns {sign}= 9 - (b & 1) + 7 - (d & 3) + (c & 15)\neth.src = s\neth.dst = a + b + c + d + e\nsend port"
+            self.assertEqual(sent(source, frame)[0], [(5 * 0x800 + 10).to_bytes(6, "big") + (64 + value).to_bytes(6, "big") + frame[12:]], sign)
 
     def test_else_in_the_line_before(self) -> None:
         """Layouts of `else` that say what the text means."""

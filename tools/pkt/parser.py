@@ -22,6 +22,8 @@ OPERATORS = {
 }  # fmt: skip
 COMPARISONS = {"==": "==", "!=": "!=", "<": ">", ">": "<", "<=": ">=", ">=": "<="}  # each operator, and its form with swapped sides
 ASSIGNMENTS = ("=", *(f"{sign}=" for sign in OPERATORS))
+# What an operation on the second part of an operation is on the whole: x - (a - b) is x - a + b.
+INNER = {"++": "+", "+-": "-", "-+": "-", "--": "+", "&&": "&", "||": "|", "^^": "^"}
 # The binary operators, those that bind least first. `not` binds closer than `and`, and `in` like a comparison.
 LEVELS = (("or",), ("and",), (*COMPARISONS, "in"), ("|",), ("^",), ("&",), ("<<", ">>"), ("+", "-"), ("*",))
 NOT, NUMBERS = 2, 3
@@ -189,10 +191,9 @@ def combined(sign: str, left: Node, right: Node) -> Node:
 
 
 def added(sign: str, left: Node, right: Node) -> Node:
-    """The operation of `left += right`. Each part of a sum on the right is taken in turn, so that none has to be held: x + (a + b) is x + a + b."""
-    if isinstance(right, Binary) and sign in "+-&|^" and right.sign == ("+" if sign == "-" else sign):
-        return combined(sign, added(sign, left, right.left), right.right)
-    return combined(sign, left, right)
+    """The operation of `left += right`. Each part of a sum on the right is taken in turn, so that none has to be held: x + (a - b) is x + a - b."""
+    inner = INNER.get(sign + right.sign) if isinstance(right, Binary) else None
+    return combined(inner, added(sign, left, right.left), right.right) if inner else combined(sign, left, right)
 
 
 def substituted(formula: Node, value: Node) -> Node:
