@@ -301,6 +301,15 @@ def guest(data: bytes) -> Iterator[Sent]:
             yield 0, data
 
 
+def erspan_out(data: bytes) -> Iterator[Sent]:
+    """A copy of each SYN in ERSPAN."""
+    yield 0, data
+    proto, top = transport(data)
+    if proto == 6 and data[top + 13] & 2 and len(data) >= 64:
+        outer = Ether(dst="02:00:00:00:01:02", src="02:00:00:00:01:01") / IP(src="192.0.2.1", dst="192.0.2.2", id=0, flags=2, len=100, proto=47)
+        yield 1, raw(outer) + struct.pack(">HHIHHI", 0x1000, 0x88BE, 0, 0x1000, 9, 0) + data[:64]
+
+
 def score(data: bytes) -> Iterator[Sent]:
     """Marks for what attacks have in common."""
     (kind, at), (proto, top), marks, door = network(data, True), transport(data, True), 0, 0
@@ -323,7 +332,7 @@ def score(data: bytes) -> Iterator[Sent]:
 TASKS: dict[str, Callable[[bytes], Iterable[Sent]]] = {
     it.__name__: it for it in (
         vlan_map, ext_filter, mss6, groups, ping_both, near_only, http_words, congested, pieces, napt, npt6, ra_guard, wire_out, wire_in, trunk, geneve_in,
-        snap, guest, score,
+        snap, guest, erspan_out, score,
     )
 }  # fmt: skip
 

@@ -265,6 +265,9 @@ class Errors(unittest.TestCase):
             with self.subTest(source):
                 self.assertIn(text, self.said(source))
         self.assertIn("help: write before `clone`, or free the clone first", self.said("clone c from 1\neth.type = 5"))
+        self.assertIn("help: write before `clone`, or free the clone first", self.said("clone c from 1\npush vlan { vid = 5 }"))
+        for source in ("clone c from 1\npush eth { type = 5 }", "clone c from 1\npush eth { type = 5 } on c", "given shared\npush eth { type = 5 }"):
+            self.assertIn("help: push before `clone`, or chain the headers before it: new h from 0, push .. on h, chain h before this", self.said(source))
         self.assertIn("\n    send y\n         ^\n", self.said("let x = 1\nsend y"))
 
     def test_a_ninth_number(self) -> None:

@@ -12,6 +12,7 @@ from .syntax import THIS, Chain, Cut, Field, Free, Name, Node, Number, Pop, Push
 from .ways import Join, Way, pieces
 
 MAX_BUFFER, MAX_SEGMENTS = 4_096, 64
+CHAINED = "push before `clone`, or chain the headers before it: new h from 0, push .. on h, chain h before this"
 
 
 def register_of(way: Way, name: str) -> int:
@@ -64,10 +65,10 @@ def come_near(way: Way) -> None:
         way.bits = {(is_far, bit): it for (is_far, bit), it in way.bits.items() if not is_far}
 
 
-def prepend(way: Way, name: str, count: int) -> int:
+def prepend(way: Way, name: str, count: int, cure: str = "") -> int:
     """Prepends zero bytes to a packet; returns its register."""
     p = register_of(way, name)
-    registers.may_write(way, p)
+    registers.may_write(way, p, cure)
     if name == THIS:
         come_near(way)
     if way.packets[p].headroom < count:
@@ -144,7 +145,7 @@ def do_push(way: Way, it: Push, _: Join[Way]) -> None:
             return push_in_turn(way, it)
         data, others = values_of(way, it.headers)
         others += checksums.sums_of(way, it.headers, data, others)
-        write_headers(way, data, others, 0, prepend(way, it.packet, len(data)))
+        write_headers(way, data, others, 0, prepend(way, it.packet, len(data), CHAINED))
 
 
 def push_in_turn(way: Way, it: Push) -> None:
@@ -152,7 +153,7 @@ def push_in_turn(way: Way, it: Push) -> None:
     further back then; fields at an offset in a register are read before."""
     data, others = values_of(way, it.headers, is_late=True)
     found, known, at = dict(way.found), dict(enumerate(data)), 0
-    packet = prepend(way, it.packet, len(data))
+    packet = prepend(way, it.packet, len(data), CHAINED)
     if it.packet == THIS:
         way.found = {name: place._replace(byte=place.byte + len(data)) for name, place in found.items() if place and not place.is_far}
     write_headers(way, data, [], 0, packet)

@@ -152,11 +152,11 @@ def load_pieces(way: Way, span: Span, value: Value) -> None:
         release(way, part)
 
 
-def may_write(way: Way, packet: int) -> None:
+def may_write(way: Way, packet: int, cure: str = "") -> None:
     """Refuses a write to shared bytes."""
     name, line = way.sharer
     who = f"{name} ({way.unit.program.rows[line].place}) shares them" if name else "the ring hands it over shared"
-    cure = "write before `clone`, or free the clone first" if name else "have the ring declare share = 2"
+    cure = cure or ("write before `clone`, or free the clone first" if name else "have the ring declare share = 2")
     is_alone = way.packets[packet].sharers <= {SOMEBODY_THE_REST}
     require(is_alone, way.at, f"the bytes of the packet cannot be written here: {who}", cure)
 
