@@ -123,6 +123,13 @@ NUMBERS = {
 }  # fmt: skip
 MOVED = ("push", "pop", "insert", "remove", "setvalid", "setinvalid", "add", "delete", "strip")
 LENGTHS, ORDERS = ("len", "size", "pkt_len", "frame_len", "packet_length"), ("htons", "ntohs", "htonl", "ntohl", "bpf_htons", "bpf_ntohs")
+# What others calculate with functions, and what there is in their place.
+CALLED = {
+    "a hash is made of numbers: h = ipv4.src ^ ipv4.dst, h ^= h >> 16, and h & 3 is one of four": "hash crc crc16 crc32 jhash toeplitz murmur symhash",
+    "no number is random: ipv4.id & 15 == 0 is true of one packet in 16": "random rand sample bpf_get_prandom_u32",
+    "no program knows the time": "now time timestamp clock ktime bpf_ktime_get_ns",
+    "sum = auto makes the checksum of a pushed header, and mend updates one": "checksum csum cksum ipchecksum csum_diff bpf_csum_diff",
+}  # fmt: skip
 ASKED, INSIDE = ("isvalid", "valid", "present", "exists"), ("options", "option", "opts", "payload", "data", "body", "rest")
 
 
@@ -161,6 +168,12 @@ def field_meant(header: str, word: str, fields: Iterable[str]) -> str:
     others = [name for names, words in FIELDS.items() if word.lower() in words.split() for name in names.split() if name in fields]
     found = others[0] if others else meant(word, fields)
     return f"{header}.{found}" if found else ""
+
+
+def call_meant(word: str) -> str:
+    """What to write for the call of a name that means nothing."""
+    others = f"def {word}(a) {{ .. }}, before it, makes {word}(1) a statement; nothing that is called gives a number"
+    return next((cure for cure, words in CALLED.items() if word.lower() in words.split()), others)
 
 
 def number_meant(word: str, fields: Sequence[tuple[str, str]], numbers: Iterable[str]) -> str:

@@ -7,7 +7,7 @@ from dataclasses import dataclass, field, replace
 from pathlib import Path as File
 from typing import NamedTuple
 
-from .cures import ALONE, BITS, CURES, FIELD, LOOKUP, MASKED, WANTED, cure_of, meant, number_meant
+from .cures import ALONE, BITS, CURES, FIELD, LOOKUP, MASKED, WANTED, call_meant, cure_of, meant, number_meant
 from .headers import Header, Headers, Span, check
 from .lexer import RESERVED, Lexer, require_word
 from .syntax import (
@@ -48,6 +48,8 @@ BRACED = "else { .. }"
 UNDER = "a difference is a great number where it would be below 0, as numbers are unsigned; x > 5 asks for what x - 5 > 0 seems to ask"
 # The cures where the number of one of these is wanted.
 NUMBERED = {"table": "table ROUTES = 0, and let x = lookup ROUTES ipv4.dst", "pool": "pool CLONES = 1, and clone c from CLONES"}
+# The cure for a header of which not its first bits have the length, as that of TCP with its options.
+OTHER_LENGTH = "v is the first bits of the header; where other bits have the length, declare one header for each: after tcp if tcp.off == 6"
 # What others call the packet as a whole.
 FOREIGN = ("meta", "metadata", "standard_metadata", "packet", "pkt", "skb", "ctx")
 # What is no number, and the cures where one is wanted.
@@ -537,7 +539,7 @@ class Parser(Lexer):
             cure = f"the `else` part has no {at.word}, and ends the program" if at.word == self.looked_up else number_meant(at.word, fields, numbers)
             _, (_, left), _, (_, right), _ = self.around(at)
             if cure.startswith("let ") and right.word == "(":
-                cure = f"def {at.word}(a) {{ .. }}, before it, makes {at.word}(1) a statement; nothing that is called gives a number"
+                cure = call_meant(at.word)
             elif cure.startswith("let ") and right.word == ":":
                 cure = CURES[":"]
             elif cure.startswith("let ") and left.word in ("send", "to"):
@@ -1072,7 +1074,7 @@ class Parser(Lexer):
         require(low <= high <= most, at, f"the last value is from {low:,} to {most:,}, and this is {high:,}", cure)
         for it in parts(formula):
             is_own = not isinstance(it, Field) and (not isinstance(it, Name) or it.name == variable)
-            require(is_own, it.at, "a length is calculated from its own variable and constants")
+            require(is_own, it.at, "a length is calculated from its own variable and constants", OTHER_LENGTH)
         header.sizes = {value: constant_of(substituted(formula, Number(header.at, value))) for value in range(low, high + 1)}
 
     def clause_next(self, header: Header) -> None:
