@@ -383,6 +383,8 @@ class Slips(unittest.TestCase):
         ("include <net.pkt>\nsend port", "1:1", 'include "net.pkt"', "send port"),
         ("send eth0", "1:6", "port eth0 = 0, before it, names a port", "port eth0 = 0\nsend eth0"),
         ("let x = f(1)\nsend port", "1:9", "nothing that is called gives a number", "def f(a) { drop }\nf(1)"),
+        ("table R = 0\nlet x = lookup R ipv6.dst\nsend x", "2:18: a table has addresses of 32 bits", "ipv6.dst_hi >> 32",
+         "ports 4\ntable R = 0\nlet x = lookup R ipv6.dst_hi >> 32\nsend x"),
         ("let h = hash(ipv4.src, ipv4.dst)\nsend 0", "1:9", "h = ipv4.src ^ ipv4.dst", "ports 4\nlet h = ipv4.src ^ ipv4.dst\nh ^= h >> 16\nsend h & 3"),
         ("if random() < 5 { drop }\nsend port", "1:4", "ipv4.id & 15 == 0", "if ipv4.id & 15 == 0 { drop }\nsend port"),
         ("let t = now()\nsend port", "1:9", "no program knows the time", "send port"),

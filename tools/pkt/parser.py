@@ -259,6 +259,13 @@ class Parser(Lexer):
         """A number."""
         return as_number(self.operation(NUMBERS))
 
+    def key(self) -> Node:
+        """A number that is looked for in a table."""
+        node = self.operation(NUMBERS)
+        fault = "a table has addresses of 32 bits, and this one has 128"
+        require(not isinstance(node, Wide), node.at, fault, "lookup ROUTES ipv6.dst_hi >> 32 looks for the first 32 of them")
+        return as_number(node)
+
     def constant(self) -> int:
         """A constant number."""
         return constant_of(self.number())
@@ -1094,7 +1101,7 @@ SLOTS: dict[str, Callable[[Parser], object]] = {
     "condition": Parser.condition, "block": Parser.block, "other_block": Parser.other_block, "fallback": Parser.fallback, "number": Parser.number,
     "key": Parser.key,
     "packet": Parser.packet, "packet_to": Parser.packet_to, "packet_held": Parser.packet_held, "packet_on": Parser.packet_on,
-    "packet_first": Parser.packet_first, "pushed": Parser.pushed, "path": Parser.path, "kept": Parser.kept,
+    "packet_first": Parser.packet_first, "pushed": Parser.pushed, "path": Parser.path, "kept": Parser.kept, "key": Parser.key,
 }  # fmt: skip
 DECLARATIONS: dict[str, Callable[[Parser, Program], None]] = {
     "const": Parser.declare_const, "ports": Parser.declare_ports, "segments": Parser.declare_segments, "otherwise": Parser.declare_otherwise,
