@@ -259,13 +259,6 @@ class Parser(Lexer):
         """A number."""
         return as_number(self.operation(NUMBERS))
 
-    def key(self) -> Node:
-        """A number that is looked for in a table."""
-        node = self.operation(NUMBERS)
-        fault = "a table has addresses of 32 bits, and this one has 128"
-        require(not isinstance(node, Wide), node.at, fault, "lookup ROUTES ipv6.dst_hi >> 32 looks for the first 32 of them")
-        return as_number(node)
-
     def constant(self) -> int:
         """A constant number."""
         return constant_of(self.number())
@@ -756,7 +749,7 @@ class Parser(Lexer):
     def key(self) -> Node:
         """The number that is looked for in a table."""
         number = self.operation(NUMBERS)
-        cure = "if ipv6.dst in 2001:db8::/32 { .. } else if .. has a case for each prefix"
+        cure = "lookup ROUTES ipv6.dst_hi >> 32 looks for the first 32; if ipv6.dst in 2001:db8::/32 { .. } else if .. has a case for each prefix"
         require(not isinstance(number, Wide), number.at, "a table has addresses of 32 bits, and this one has 128", cure)
         bits = self.span_of(number).bits if isinstance(number, Field) and not number.name.endswith("_lo") else 32
         cure = "number & 0xffffffff is its last 32 bits, and number >> 32 are the first ones"
@@ -1099,7 +1092,6 @@ class Parser(Lexer):
 # What reads the parts of a statement (those that are missing are constants within limits), declarations, and the clauses of a header.
 SLOTS: dict[str, Callable[[Parser], object]] = {
     "condition": Parser.condition, "block": Parser.block, "other_block": Parser.other_block, "fallback": Parser.fallback, "number": Parser.number,
-    "key": Parser.key,
     "packet": Parser.packet, "packet_to": Parser.packet_to, "packet_held": Parser.packet_held, "packet_on": Parser.packet_on,
     "packet_first": Parser.packet_first, "pushed": Parser.pushed, "path": Parser.path, "kept": Parser.kept, "key": Parser.key,
 }  # fmt: skip
