@@ -24,6 +24,7 @@ from model.machine import Env, Input, Pool, Port, Ring, World, run
 from pkt_model.machine import Source, SourceWorld
 from pkt_model.reader import read
 from pkt.compiler import compile_text, compiled, error_text, parse
+from pkt.filtering import require_filter
 from pkt.headers import Headers, Span
 from pkt.graph import Graph, Instruction
 from pkt.lexer import words_of
@@ -806,7 +807,10 @@ class Programs(unittest.TestCase):
                        "const LEAST = 0\nneed ipv4.ttl >= LEAST", "need ipv4.ttl in 0..9", "need ipv4.src in 0.0.0.0/0", "need ipv4.ttl + 1 == 256",
                        "need 0 < ipv4.ttl and ipv4.tos <= 0", "const LEVEL = 4\nif LEVEL & 4 { ipv4.tos = 1 }", "need port == 7", "need ~ipv4.tos == ~3",
                        "need ipv4.ttl * 4 + 3 == 1023 and ipv4.tos | 4 == 7", "let x = 0 - 1\nneed x == ~0", "need (ipv4.src ^ ipv4.dst) & 1",
-                       "const A = 5\nconst B = 5\nneed ipv4.ttl != A or ipv4.ttl != B", "need ipv4.ttl != 5 or ipv4.tos != 6", "need ipv4.ttl == 5 or ipv4.ttl == 6"):
+                       "const A = 5\nconst B = 5\nneed ipv4.ttl != A or ipv4.ttl != B", "need ipv4.ttl != 5 or ipv4.tos != 6", "need ipv4.ttl == 5 or ipv4.ttl == 6",
+                       "def less(n) { if n { mend ipv4.ttl -= n } }\nless(0) less(2)", "def say(n) { if n > 1 { count more } else if n { count few } }\nsay(0) say(1) say(2)",
+                       "const PORTS = 8\nports 8\nneed port < PORTS", "need tcp.dport >= 0 and tcp.dport <= 1023", "need 0 <= vlan.pcp and vlan.pcp < 4",
+                       "let x = ipv4.ttl\nneed x >= 0 and x <= 5"):
             with self.subTest(source):
                 self.assertGreater(count(source + "\nsend port"), 0)
 
@@ -1278,6 +1282,9 @@ class Reached(unittest.TestCase):
             "need ipv6.src in 2001:db8::1/32": "line 1: the bits of 2001:db8::1 after the first 32 do not count",
             "need ipv4.frag & 0x3fff == 0": "line 1: ipv4.frag has 13 bits, and 0x3fff has more; ipv4.pieces has the bit for more fragments",
             "need ipv4.ttl - 5 > 0": "line 1: a difference is a great number where it would be below 0",
+            "need ipv4.ttl > 3\nneed ipv4.ttl - 5 > 0": "line 2: a difference is a great number where it would be below 0",
+            "need ipv4.ihl - 6 > 0": "line 1: a difference is a great number where it would be below 0",
+            "let a = ipv4.ttl + 1\nipv4.ttl = a": "line 2: ipv4.sum stays as it was",
             "clone c from 0": "line 1: c is never sent, and is dropped at the end of its block",
             "def f() { new h from 0 push eth { } on h }\nf()": "line 1: h is never sent",
             "def f() { fnord }": "line 1: f is used nowhere, so its block was not read",
@@ -1287,11 +1294,24 @@ class Reached(unittest.TestCase):
                 self.assertTrue(compiled(source + "\nsend port").note.startswith(text), compiled(source + "\nsend port").note)
         for source in ("need tcp.flags & ~2 == 0", "const M = 0xffff\nneed vlan.vid & M", "mend ipv4.ttl -= 1", "ipv4.ttl -= 1\nipv4.sum = 0", "let a = ipv4.src\nipv4.src = ipv4.dst\nipv4.dst = a", "ipv6.hops -= 1",
                        "need ipv4.src in 10.0.0.0/8", "need ipv4.src in 0.0.0.0/0", "need ipv4.ttl - 5 == 1", "clone c from 0\nsend c to 0",
-                       "new h from 0\npush eth { } on h\nchain h before this", "def f() { drop }\nif tcp { f() }", "clone c from 0\nfree c"):
+                       "new h from 0\npush eth { } on h\nchain h before this", "def f() { drop }\nif tcp { f() }", "clone c from 0\nfree c",
+                       "let a = udp.sport\nlet b = udp.dport\nudp.sport = b\nudp.dport = a", "let a = l4.sport\nl4.sport = l4.dport\nl4.dport = a",
+                       "ipv4.src ^= ipv4.dst\nipv4.dst ^= ipv4.src\nipv4.src ^= ipv4.dst", "const GATEWAY = 192.0.2.1\nneed ipv4.dst in GATEWAY/24",
+                       "push eth { } ipv4 { len = 36 src = 1 dst = 2 } udp { len = 16 } vxlan { }\nudp.sport = 5", "need ipv4.ihl - 5 > 0",
+                       "need ipv4.len >= 28\nneed ipv4.len - 28 < 512", "need ipv4.len > 40 and ipv4.len - 40 < 100"):
             with self.subTest(source):
                 self.assertEqual(compiled(source + "\nsend port").note, "")
         rules = "".join(f"need not ipv4.src in 10.0.0.{k}/24\n" for k in range(1, 3)) + "".join(f"ipv4.tos = {k}\n" for k in range(20))
         self.assertEqual(compiled(rules + "send port").note.splitlines()[-1], "12 notes more")
+
+
+    def test_dpv_filter_runs_what_wants_no_more_than_it_has(self) -> None:
+        """Blocks that constants switch off want nothing."""
+        for source in ("const SLOW = 0\nif SLOW { queue 0 }\nsend port", "const LAB = 1\nif LAB { send port } else { queue 0 }",
+                       "const COPY = 0\nif tcp { if COPY and udp { clone c from 2\nsend c to port } }\nsend port"):
+            require_filter(parse(source, None))
+            with self.assertRaises(SourceError):
+                require_filter(parse(source.translate({48: "1", 49: "0"}), None))
 
 
 class Names(unittest.TestCase):

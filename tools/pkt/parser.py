@@ -14,7 +14,7 @@ from .syntax import (
     BIGGEST, PORT, PRIME, THIS, And, Assign, Binary, Block, Chain, Clone, Compare, Count, Cut, Drop, Field, Found, Free, If, Inline, Length, Let, Lookup, Mend,
     Name, Need, New, Node, Not, Number, Numeric, Or, Path, Place, Pop, Push, Pushed, Row, Send, SourceError, Truncate, While, Wide, goes_on, parts, require,
 )
-from .values import require_can_be, require_choice, require_leaves, require_open, require_unsigned
+from .values import least_of, require_can_be, require_choice, require_leaves, require_open, require_unsigned
 
 OPERATORS = {
     "+": operator.add, "-": operator.sub, "*": operator.mul, "<<": operator.lshift, ">>": operator.rshift,
@@ -239,13 +239,13 @@ class Parser(Lexer):
         self.depth = self.statements = self.operators = 0
         self.given: set[str] = set()
         self.looked_up = ""
-        self.notes, self.used = dict[Place, str](), set[str]()
+        self.notes, self.used, self.limits = dict[Place, str](), set[str](), dict[Node, int]()
         self.below: tuple[Place, str] | None = None
 
     def condition(self) -> Node:
         """A condition."""
         at, node = self.place(), self.operation()
-        is_alone = isinstance(node, Number) and node.value > 1 and self.words[self.next - 1][1] == at
+        is_alone = isinstance(node, Number) and node.value > 1 and self.words[self.next - 1][1] == at and self.names.get(at.word) != "a parameter"
         cure = f"x == {at.word} compares x with it; 1 always holds, and 0 never"
         require(not is_alone, at, f"{at.word} alone is a condition that never changes", cure)
         return self.as_condition(node)
@@ -328,9 +328,10 @@ class Parser(Lexer):
     def joined(self, sign: str, left: Node, right: Node) -> Node:
         """A comparison or two conditions joined by a word."""
         if sign in COMPARISONS:
-            require_unsigned(sign, left, right)
-            differences = [it for it in (left, right) if sign not in ("==", "!=") and isinstance(it, Binary) and it.sign == "-"]
-            self.notes |= {it.at: UNDER for it in differences if isinstance(it.right, Number)}
+            if sign not in (">=", "<=") or not self.begins_range(right if isinstance(left, Number) else left):
+                require_unsigned(sign, left, right)
+            if sign not in ("==", "!="):
+                self.note_difference(left, right)
             return self.compared(sign, left, right)
         for side in (left, right):
             # A constant with a name, of 0 or 1, may switch a part off.
@@ -339,6 +340,21 @@ class Parser(Lexer):
             require(is_open, side.at, f"{side.at.word} alone is a condition that never changes", "x in {1, 2} compares x with each")
         require_choice(sign, left, right)
         return (And if sign == "and" else Or)(left.at, self.as_condition(left), self.as_condition(right))
+
+    def begins_range(self, it: Node) -> bool:
+        """Whether `and x <` is next, after x >= 0: both are a range, as those write it that generate rules."""
+        words = [it.header, ".", it.name] if isinstance(it, Field) else [it.at.word]
+        following = [self.place(k).word for k in range(len(words) + 2)]
+        return following[:-1] == ["and", *words] and following[-1] in ("<", "<=")
+
+    def note_difference(self, left: Node, right: Node) -> None:
+        """Notes the order of a difference with a constant, unless it cannot be below 0 or the text has asked before how great the number is."""
+        for it, other in ((left, right), (right, left)):
+            if isinstance(it, Binary) and it.sign == "-" and isinstance(it.right, Number):
+                asked = self.limits.get(it.left, -1) + 1 if isinstance(it.left, (Field, Name)) else 0
+                self.notes |= {it.at: UNDER} if max(asked, least_of(it.left, self.headers)) < it.right.value else {}
+            elif isinstance(other, Number) and isinstance(it, (Field, Name)):
+                self.limits[it] = max(other.value, self.limits.get(it, 0))
 
     def items(self, left: Node) -> Node:
         """The items after `in`: a comparison for each."""
@@ -412,12 +428,12 @@ class Parser(Lexer):
         require(not is_short, item.number.at, fault, "a prefix begins with an address, as in 10.0.0.0/8, or has all its digits, as in 0x0a000000/8")
 
     def note_rest(self, item: Item, bits: int) -> None:
-        """Notes a prefix whose constant has bits after its depth."""
+        """Notes a prefix whose constant is written with bits after its depth; GATEWAY/24 is the net of an address that has a name."""
         number, depth = item.number, item.depth or 0
         value = number.value if isinstance(number, Number) else 0
         if isinstance(number, Wide) and isinstance(number.high, Number) and isinstance(number.low, Number):
             value = number.high.value << 64 | number.low.value
-        if depth and value & (1 << bits - depth) - 1:
+        if depth and value & (1 << bits - depth) - 1 and number.at.word not in self.names:
             self.notes[number.at] = f"the bits of {number.at.word} after the first {depth} do not count"
 
     def span_of(self, it: Field) -> Span:

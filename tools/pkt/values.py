@@ -25,6 +25,15 @@ def values_of(it: Node, headers: Headers, depth: int = 0) -> Value:
     return Value()
 
 
+def least_of(it: Node, headers: Headers) -> int:
+    """The least value of a number; of a field in the first bits of its header, the least with which the header is found."""
+    header = headers[it.header] if isinstance(it, Field) else None
+    span = header.fields[it.name] if header and isinstance(it, Field) else None
+    if header and span and header.sizes and span.end <= header.bits:
+        return min(value >> header.bits - span.end & span.largest for value in header.sizes)
+    return values_of(it, headers).low
+
+
 def result(sign: str, a: Value, b: Value) -> Value:
     """What the result of an operation can be."""
     if a.low == a.high and sign in "&|^+*":
@@ -63,7 +72,8 @@ def require_can_be(sign: str, left: Node, right: Node, headers: Headers) -> None
     if not isinstance(right, Number) or not isinstance(left, (Binary, Name)):
         return
     value, it = values_of(left, headers), right.value
-    is_within = value.low <= it <= value.high
+    # All ports are below the number of ports.
+    is_within = value.low <= it <= value.high + (isinstance(left, Name) and sign not in ("==", "!="))
     can_be = value.can_be(it) if sign in ("==", "!=") else is_within
     if not can_be:
         is_most = f"at most {value.high:,}" if it > value.high else f"at least {value.low:,}"
