@@ -246,7 +246,7 @@ class Parser(Lexer):
         """A condition."""
         at, node = self.place(), self.operation()
         is_alone = isinstance(node, Number) and node.value > 1 and self.words[self.next - 1][1] == at and self.names.get(at.word) != "a parameter"
-        cure = f"x == {at.word} compares x with it; 1 always holds, and 0 never"
+        cure = f"x == {at.word} compares x with it, and {at.word} != 0 switches a part on"
         require(not is_alone, at, f"{at.word} alone is a condition that never changes", cure)
         return self.as_condition(node)
 
