@@ -96,10 +96,13 @@ def converted(program: str, folder: pathlib.Path) -> list[bool]:
         passed.append(is_cured(program, source))
         if not passed[-1]:
             print(f"cures: a capture {name}: the cure fails")
-    frames, newer = folder / "frames.pcap", folder / "newer.pcapng"
+    frames = folder / "frames.pcap"
     write_capture(frames, ETHERNET, [ethernet(*it) for it in PACKETS])
-    subprocess.run(["editcap", "-F", "pcapng", frames.name, newer.name], cwd=folder, check=True)
-    return [*passed, is_cured(program, newer)]
+    for form in ("pcapng", "modpcap"):
+        other = folder / f"other.{form}"
+        subprocess.run(["editcap", "-F", form, frames.name, other.name], cwd=folder, check=True)
+        passed.append(is_cured(program, other))
+    return passed
 
 
 def is_unpacked(program: str, folder: pathlib.Path, tool: str) -> bool:

@@ -26,6 +26,7 @@ from command import asked, nested_folder, report_cases
 from faults import HEADER, ONE, POOL, capture, make_files, pipeline, run_of
 
 PCAPNG = "it is a pcapng file; editcap -F pcap IN OUT converts it to a capture"
+MODIFIED = PCAPNG.replace("pcapng", "modified pcap")
 # How compressed files begin.
 PACKED = {"gzip": b"\x1f\x8b", "bzip2": b"BZh", "xz": b"\xfd7zXZ\0", "zstd": b"\x28\xb5\x2f\xfd", "lz4": b"\x04\x22\x4d\x18"}
 NOBODY = 65_534
@@ -119,6 +120,8 @@ def captures() -> Iterator[Case]:
     words = {
         "magic.pcap": (1, "no magic number of a pcap file"),
         "new.pcapng": (1, PCAPNG),
+        "modified.pcap": (1, MODIFIED),
+        "swapped.pcap": (1, MODIFIED),
         "version.pcap": (2, "the version is not 2.4"),
         "link.pcap": (3, "the link type is 101 RAW, and not 1 ETHERNET"),
         "time.pcap": (4, "the fraction of a record's time is a second or more"),
@@ -406,6 +409,7 @@ def drops() -> Iterator[Case]:
     """Runs that reach their end and sent fewer packets than came in, each with its cure."""
     yield Case(["run", "narrow.toml"], 0, "port 0: 1 record is longer than it takes (64 bytes): raise segs or room\n")
     filtered = ["filter", "forward.dpv", "wide.pcap", "out"]
+    yield Case([*filtered, "--room", "129"], 0, "port 0: 1 record is longer than it takes (1 byte): raise --segs or --room\n")
     yield Case([*filtered, "--room", "192"], 0, "port 0: 1 record is longer than it takes (64 bytes): raise --segs or --room\n")
     yield Case([*filtered, "--room", "192", "--segs", "2"], 0, "")
     yield Case(["filter", "forward.dpv", "widest.pcap", "out", "--room", "4096", "--segs", "64"], 0, "port 0: 1 record is longer than it takes (253952 bytes): no pipeline may have more\n")
@@ -460,6 +464,8 @@ def make_more(folder: pathlib.Path) -> None:
     data = {
         "magic.pcap": b"\0" + ONE[1:],
         "new.pcapng": struct.pack("<IIIHHqI", 0x0A0D0D0A, 28, 0x1A2B3C4D, 1, 0, -1, 28),
+        "modified.pcap": struct.pack("<I", 0xA1B2CD34) + ONE[4:],
+        "swapped.pcap": struct.pack(">I", 0xA1B2CD34) + ONE[4:],
         "version.pcap": ONE[:6] + b"\5" + ONE[7:],
         "time.pcap": HEADER + struct.pack("<IIII", 1, 1_000_000, 4, 4) + b"data",
         "large.pcap": HEADER + struct.pack("<IIII", 1, 2, 262_145, 262_145),

@@ -12,6 +12,8 @@ use std::io::Error;
 #[derive(Clone, Copy, PartialEq, Eq)]
 pub enum Format {
     Pcapng,
+    /// The modified pcap of old Linux systems, whose records have longer headers.
+    Modified,
     Gzip,
     Bzip2,
     Xz,
@@ -20,8 +22,10 @@ pub enum Format {
 }
 
 /// How files of these formats begin.
-static BEGINNINGS: [(&[u8], Format); 6] = [
+static BEGINNINGS: [(&[u8], Format); 8] = [
     (b"\x0a\x0d\x0d\x0a", Format::Pcapng),
+    (b"\x34\xcd\xb2\xa1", Format::Modified),
+    (b"\xa1\xb2\xcd\x34", Format::Modified),
     (b"\x1f\x8b", Format::Gzip),
     (b"BZh", Format::Bzip2),
     (b"\xfd7zXZ\0", Format::Xz),
@@ -43,6 +47,7 @@ pub fn format_of(bytes: &[u8]) -> Option<Format> {
 fn write_format<W: fmt::Write>(format: Format, f: &mut fmt::Formatter<W>) -> fmt::Result {
     let tool = match format {
         Format::Pcapng => return f.write_str(PCAPNG),
+        Format::Modified => return f.write_str(MODIFIED),
         Format::Gzip => "gzip",
         Format::Bzip2 => "bzip2",
         Format::Xz => "xz",
@@ -56,6 +61,9 @@ fn write_format<W: fmt::Write>(format: Format, f: &mut fmt::Formatter<W>) -> fmt
 }
 
 const PCAPNG: &str = "it is a pcapng file; editcap -F pcap IN OUT converts it to a capture";
+
+const MODIFIED: &str =
+    "it is a modified pcap file; editcap -F pcap IN OUT converts it to a capture";
 
 const NO_ETHERNET: &str =
     "capture on an Ethernet interface: these records have no Ethernet headers";
