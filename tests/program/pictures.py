@@ -218,9 +218,11 @@ def faults(folder: pathlib.Path) -> list[tuple[list[str], int, str]]:
     for name, text in texts.items():
         if text is not None:
             (folder / name).write_text(text)
+    (folder / "latin.json").write_bytes(b'{"a": "\xff"}')
     because = {
         "none.json": "No such file or directory",
         "cut.json": "line 1 column ",
+        "latin.json": "it is not UTF-8",
         "other.json": "counts is not an object",
         "list.json": "counts.nodes is not a list",
         "node.json": "it has no counts of port 0",

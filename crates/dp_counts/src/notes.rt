@@ -78,7 +78,8 @@ impl Noted<'_> {
             let most = u64::from(port.segs) * u64::from(pool.room.saturating_sub(128));
             let is_most = port.segs == u32::from(MAX_SEGMENTS) && pool.room == MAX_ROOM;
             let are = word(long, "record is", "records are");
-            out.say(format_args!("port {k}: {long} {are} longer than it takes ({most} bytes)"));
+            let bytes = word(most, "byte", "bytes");
+            out.say(format_args!("port {k}: {long} {are} longer than it takes ({most} {bytes})"));
             self.end(is_most, "segs or room", "--segs or --room", out);
         }
         if few > 0 {

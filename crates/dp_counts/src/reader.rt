@@ -34,6 +34,7 @@ impl fmt::Display for CountsError {
     fn fmt<W: fmt::Write>(&self, f: &mut fmt::Formatter<W>) -> fmt::Result {
         match *self {
             CountsError::Memory => f.write_str("memory"),
+            NotJson(0, _) => f.write_str("it is not UTF-8"),
             NotJson(line, column) => {
                 write!(f, "line {line} column {column}: the text is not JSON")
             }
