@@ -37,6 +37,7 @@ Prints a line for each check and each edit, a table by crate, and last 'planted:
 import argparse
 import collections
 import concurrent.futures
+import contextlib
 import dataclasses
 import functools
 import itertools
@@ -639,6 +640,13 @@ def lanes(jobs: int) -> int:
     return jobs or max(1, min(len(os.sched_getaffinity(0)), memory // ROOM))
 
 
+def yield_to_others() -> None:
+    """Takes only processors that nothing else wants, also where Linux weighs sessions against each other before processes."""
+    os.nice(19)
+    with contextlib.suppress(OSError):
+        pathlib.Path("/proc/self/autogroup").write_text("19")
+
+
 def main() -> int:
     by, page = asked(), TOP / "docs/developing/notes/wrong_bodies.md"
     if by.count:
@@ -657,7 +665,7 @@ def main() -> int:
         sys.exit(f"planted: no library of {', '.join(lacking)} is built yet: run `rt ci` or `rt all check` at the top of the repository first")
     tasks = sorted(groups.items(), key=lambda it: len(it[0].below()) if by.early else -len(it[1]))
     if by.early:
-        os.nice(19)
+        yield_to_others()
     with concurrent.futures.ThreadPoolExecutor(lanes(by.jobs)) as pool:
         tallies = list(pool.map(lambda it: try_crate(*it, by), tasks))
     for (crate, tried), it in zip(tasks, tallies):
