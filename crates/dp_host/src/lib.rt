@@ -50,7 +50,8 @@ pub extern "C" fn dpv_size() -> usize
     std::mem::size_of::<Host>()
 }
 
-/// Sets `out` to what a node run of the program in a text can cost; no engine is needed. Returns 0, or the number of a refusal.
+/// Sets `out` to what a node run of the program in a text can cost; no engine is needed. Returns 0, or a refusal as `enum dpv_answer` of
+/// include/dpv.h numbers it.
 #[unsafe(no_mangle)]
 pub extern "C" fn dpv_cost(alloc: Global, text: &[u8], out: &mut CostStats) -> u32
     ensures { CostAnswers text.now out.old out.new result }
@@ -68,7 +69,7 @@ pub unsafe extern "C" fn dpv_begin(alloc: Global, at: *mut u8, toml: &[u8], pack
 }
 
 /// Passes in one frame, received on `port` at `time`, and returns all frames sent for it: `records` says where in `bytes` each one is.
-/// Returns 0 if the frame was received, 1 if too few buffers were free, 2 if it is too large for its port, or the number of a refusal.
+/// Returns 0 if the frame was received, 1 if too few buffers were free, 2 if it is too large for its port, or a refusal of `enum dpv_answer`.
 #[unsafe(no_mangle)]
 pub unsafe extern "C" fn dpv_pass_into(
     at: *mut u8,
@@ -123,7 +124,7 @@ pub unsafe extern "C" fn dpv_burst_into(
     )
 }
 
-/// Sets `size` to a batch with room for whatever the ports send for one frame. Returns 0, or the number of a refusal.
+/// Sets `size` to a batch with room for whatever the ports send for one frame. Returns 0, or a refusal as `enum dpv_answer` of include/dpv.h numbers it.
 #[unsafe(no_mangle)]
 pub unsafe extern "C" fn dpv_batch_size(at: *mut u8, size: &mut Room) -> u32
     ghost h: { Host }
@@ -144,7 +145,7 @@ pub unsafe extern "C" fn dpv_why(at: *mut u8, explanation: &mut Explanation) -> 
     host::explanation(&mut *(at as *mut Host), explanation)
 }
 
-/// Sets `out` to the counts of a port so far. Returns 0, or the number of a refusal.
+/// Sets `out` to the counts of a port so far. Returns 0, or a refusal as `enum dpv_answer` of include/dpv.h numbers it.
 #[unsafe(no_mangle)]
 pub unsafe extern "C" fn dpv_port(at: *mut u8, which: u32, out: &mut PortStats) -> u32
     ghost h: { Host }
@@ -155,7 +156,7 @@ pub unsafe extern "C" fn dpv_port(at: *mut u8, which: u32, out: &mut PortStats) 
     host::port_stats(&mut *(at as *mut Host), which, out)
 }
 
-/// Sets `out` to the counts of a pool so far. Returns 0, or the number of a refusal.
+/// Sets `out` to the counts of a pool so far. Returns 0, or a refusal as `enum dpv_answer` of include/dpv.h numbers it.
 #[unsafe(no_mangle)]
 pub unsafe extern "C" fn dpv_pool(at: *mut u8, which: u32, out: &mut PoolStats) -> u32
     ghost h: { Host }
@@ -166,7 +167,7 @@ pub unsafe extern "C" fn dpv_pool(at: *mut u8, which: u32, out: &mut PoolStats) 
     host::pool_stats(&mut *(at as *mut Host), which, out)
 }
 
-/// Sets `out` to the number of packets in a ring. Returns 0, or the number of a refusal.
+/// Sets `out` to the number of packets in a ring. Returns 0, or a refusal as `enum dpv_answer` of include/dpv.h numbers it.
 #[unsafe(no_mangle)]
 pub unsafe extern "C" fn dpv_ring(at: *mut u8, which: u32, out: &mut RingStats) -> u32
     ghost h: { Host }
@@ -177,7 +178,8 @@ pub unsafe extern "C" fn dpv_ring(at: *mut u8, which: u32, out: &mut RingStats) 
     host::ring_stats(&mut *(at as *mut Host), which, out)
 }
 
-/// Adds a route to a table, or replaces the hop of its route of this prefix and depth. Returns 0, or the number of a refusal.
+/// Adds a route to a table, or replaces the hop of its route of this prefix and depth. Returns 0, or a refusal as `enum dpv_answer` of
+/// include/dpv.h numbers it.
 #[unsafe(no_mangle)]
 pub unsafe extern "C" fn dpv_route_add(at: *mut u8, route: &mut Route) -> u32
     ghost h: { Host }
@@ -188,7 +190,7 @@ pub unsafe extern "C" fn dpv_route_add(at: *mut u8, route: &mut Route) -> u32
     host::route_added(&mut *(at as *mut Host), route)
 }
 
-/// Deletes a route of a table. Returns 0, or the number of a refusal.
+/// Deletes a route of a table. Returns 0, or a refusal as `enum dpv_answer` of include/dpv.h numbers it.
 #[unsafe(no_mangle)]
 pub unsafe extern "C" fn dpv_route_delete(at: *mut u8, route: &mut Route) -> u32
     ghost h: { Host }
@@ -199,7 +201,8 @@ pub unsafe extern "C" fn dpv_route_delete(at: *mut u8, route: &mut Route) -> u32
     host::route_deleted(&mut *(at as *mut Host), route)
 }
 
-/// Sets `out` to the hop of a table for an address: that which a program would find now. Returns 0, or the number of a refusal.
+/// Sets `out` to the hop of a table for an address: that which a program would find now. Returns 0, or a refusal as `enum dpv_answer` of
+/// include/dpv.h numbers it.
 #[unsafe(no_mangle)]
 pub unsafe extern "C" fn dpv_route_lookup(at: *mut u8, table: u32, ip: u32, out: &mut Hop) -> u32
     ghost h: { Host }
@@ -210,7 +213,7 @@ pub unsafe extern "C" fn dpv_route_lookup(at: *mut u8, table: u32, ip: u32, out:
     host::route_found(&mut *(at as *mut Host), table, ip, out)
 }
 
-/// Ends the engine: frees every buffer and the region. Returns 0, or the number of a refusal.
+/// Ends the engine: frees every buffer and the region. Returns 0, or a refusal as `enum dpv_answer` of include/dpv.h numbers it.
 #[unsafe(no_mangle)]
 pub unsafe extern "C" fn dpv_close(at: *mut u8, totals: &mut Totals) -> u32
     ghost h: { Host }

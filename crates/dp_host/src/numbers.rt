@@ -105,7 +105,7 @@ pub struct Route {
 #[repr(C)]
 #[derive(Clone, Copy, Drop)]
 pub struct Hop {
-    /// That of the deepest route.
+    /// The hop of the deepest route for the address.
     pub hop: u32,
 }
 
@@ -117,6 +117,6 @@ pub struct CostStats {
     pub steps: u32,
     /// 1 if the program can jump back, else 0.
     pub jumps_back: u32,
-    /// The first label, from 0, at which it can, else 0.
+    /// The first label, from 0, that can jump back, else 0.
     pub label: u32,
 }

@@ -21,13 +21,12 @@
 //! are no deeper than the rule; `delete` gives them to the next shallower rule. No other entry is touched.
 //!
 //! Who owns what: an `Lpm` owns its entries and rules. `Lpm::new` takes all memory; no other call allocates. `Tables` takes ownership of up to
-//! four tables for an engine, which reads them and never changes them.
+//! four tables for an engine, which changes their rules only between turns, by `Tables::add` and `Tables::delete`.
 //!
-//! What to call: `add` and `delete` before the engine opens, `lookup` for an address. A refused call changes nothing.
+//! What to call: `add` and `delete` for rules, `lookup` for an address. A refused call changes nothing.
 //!
 //! What not to do: do not call `add` or `delete` for each packet. A rule of depth 8 covers 65,536 entries, and both go through all entries of its
-//! prefix; `lookup` alone reads two at most. `Tables::lookup` requires that the table exists, and tests nothing. No rules can change once `Tables`
-//! has the table.
+//! prefix; `lookup` alone reads two at most. `Tables::lookup` requires that the table exists, and tests nothing.
 #![tactic(auto)]
 
 mod cell;

@@ -115,8 +115,8 @@ impl Pool {
         }
     }
 
-    /// Makes a pool of `count` objects (1 to `MAX_OBJECTS`) of `size` bytes (1 to `MAX_OBJECT`), all in, with a cache for `cache` indexes
-    /// (at most `MAX_CACHE`, and at most two thirds of the objects). It reserves the zones `NAME.obj` and `NAME.ring`. On an error, the
+    /// Makes a pool of `count` objects (1 to `MAX_OBJECTS`, 65,535) of `size` bytes (1 to `MAX_OBJECT`, 4,224), all in, with a cache for `cache`
+    /// indexes (at most `MAX_CACHE`, 512, and at most two thirds of the objects). It reserves the zones `NAME.obj` and `NAME.ring`. On an error, the
     /// first that applies, zones and elements are as before.
     pub fn make(
         heap: &mut Heap,

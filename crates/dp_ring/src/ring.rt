@@ -74,7 +74,7 @@ fn before_turn(count: u32, slot: u32, number: usize) -> usize
 }
 
 impl Ring {
-    /// Makes an empty ring of `count` slots in a zone.
+    /// Makes an empty ring of `count` slots, 2 to 65,536, in a zone of at least 4 bytes a slot.
     pub fn over(zone: Zone, count: u32) -> Ring
         requires count { IsCount count }
         requires room { 4 * count ≤ length zone.bytes }

@@ -15,8 +15,12 @@ use dp_model::Queue;
 use dp_pcap::{Sink, Time, Unit};
 
 impl<K: CompiledPrograms> Engine<K> {
-    /// Writes the packets of a port's transmit list as records of that time, first to last, in the format of classic pcap 2.4, and frees them, even
-    /// if the writer fails. Returns how many records were written; an error has how many were written whole before the writer failed.
+    /// Writes the packets of the transmit list of `port`, which must exist, first to last as records of classic pcap 2.4, and frees them, even if the
+    /// writer fails. The records have this time, in nanoseconds or, rounded down, in microseconds. Returns how many records were written.
+    ///
+    /// # Errors
+    ///
+    /// [`WriteFault`] if the writer failed, with how many records it took whole before.
     #[inline(always)]
     #[tactic(auto, using(std::proofs::lemmas::Grind::common_steps))]
     pub fn drain<W: Sink>(

@@ -44,7 +44,8 @@ fn widest_room(pools: &[PoolSpec]) -> usize
 }
 
 impl<K: CompiledPrograms> Engine<K> {
-    /// The size of a batch with room for whatever a turn sends: as many records as there are buffers, each with the largest data room.
+    /// The size of a batch, in records and bytes, with room for whatever a turn sends: as many records as there are buffers, each with the largest
+    /// data room.
     pub fn batch_size(&self) -> BatchSize
         ensures { result ≡ max_batch self.now.setting.env }
     {
@@ -99,8 +100,8 @@ impl<K: CompiledPrograms> Engine<K> {
     }
 
     /// Takes a turn, as [`turn`](Engine::turn) does, then drains all ports into the caller's arrays: the records into `records`, port by port, first
-    /// to last, and their bytes into `bytes`, in the same order. Both must be as long as [`batch_size`](Engine::batch_size) says. Each record gets
-    /// the time, in the caller's unit. It takes no memory.
+    /// to last, and their bytes into `bytes`, in the same order. Both must be as long as [`batch_size`](Engine::batch_size) says. The port must exist,
+    /// and the frame have at most 262,144 bytes. Each record gets the time, in the caller's unit. It takes no memory.
     pub fn pass(
         &mut self,
         port: u8,
