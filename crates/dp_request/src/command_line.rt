@@ -67,8 +67,8 @@ drops: --drops: prints the places where packets ended without being sent, most f
 progress: --progress: says on standard error how many records were read, each million and at the end
 unbuffered: --unbuffered -U: writes each record out as soon as it is sent, as for a pipe
 at_once: --unbuffered -U: changes nothing: a trace prints each record as soon as it ends
-room: --room N: the bytes of a buffer, 2176 if not given: a record has at most N - 128 for each segment
-segs: --segs N: how many segments a received record may have, 1 if not given
+room: --room N: the bytes of a buffer, from 129 to 4096, else 2176: a record has at most N - 128 for each segment
+segs: --segs N: how many segments a received record may have, from 1 to 64, else 1
 name: --name NAME: what --counts calls the program, PROGRAM if not given
 inputs: --in PORT=NAME..: the capture that a port reads in place of its in; - is standard input
 outputs: --out PORT=NAME..: the capture that a port writes in place of its out; - is standard output
