@@ -265,22 +265,17 @@ fn push_place<'a>(
 /// The places of a report.
 fn reported<'a>(alloc: Global, report: &Report) -> Result<Vec<DropPlace<'a>>, AllocError> {
     let mut all = Vec::new(alloc);
-    for (k, port) in (0..8u8).zip(report.ports.as_slice()) {
-        push_place(
-            &mut all,
-            Entry::Port(k),
-            (DropCause::Oversize, None),
-            port.oversize,
-        )?;
-        push_place(
-            &mut all,
-            Entry::Port(k),
-            (DropCause::NoBuffers, None),
-            port.nobuf,
-        )?;
+    for k in 0..8u8 {
+        if let Some(port) = report.ports.as_slice().get(usize::from(k)) {
+            let (long, few) = ((DropCause::Oversize, None), (DropCause::NoBuffers, None));
+            push_place(&mut all, Entry::Port(k), long, port.oversize)?;
+            push_place(&mut all, Entry::Port(k), few, port.nobuf)?;
+        }
     }
-    for (k, left) in (0..8u8).zip(report.rings.as_slice()) {
-        push_place(&mut all, Entry::Ring(k), (DropCause::Left, None), *left)?;
+    for k in 0..8u8 {
+        if let Some(left) = report.rings.as_slice().get(usize::from(k)) {
+            push_place(&mut all, Entry::Ring(k), (DropCause::Left, None), *left)?;
+        }
     }
     Ok(all)
 }

@@ -108,10 +108,14 @@ impl Noted<'_> {
 
     /// Says what ports lost.
     fn say_ports(self, full: [u64; 8], out: &mut Text) {
-        let ports = self.report.ports.as_slice().iter().zip(self.env.ports());
-        for (k, ((numbers, port), full)) in (0..8u8).zip(ports.zip(full)) {
+        let (ports, all) = (self.env.ports(), self.report.ports.as_slice());
+        for k in 0..8u8 {
+            let place = usize::from(k);
+            let (Some(port), Some(numbers)) = (ports.get(place), all.get(place)) else {
+                return;
+            };
             self.say_records(k, port, numbers, out);
-            self.say_full(Entry::Port(k), full, port.queue, out);
+            self.say_full(Entry::Port(k), full[place], port.queue, out);
             if let InputState::Cut(byte) = numbers.state {
                 let ends = "its input ends within the record at byte";
                 out.say(format_args!("port {k}: {ends} {byte}, which is not read\n"));
@@ -121,9 +125,13 @@ impl Noted<'_> {
 
     /// Says what rings lost.
     fn say_rings(self, full: [u64; 8], out: &mut Text) {
-        let rings = self.report.rings.as_slice().iter().zip(self.env.rings());
-        for (k, ((left, ring), full)) in (0..8u8).zip(rings.zip(full)) {
-            self.say_full(Entry::Ring(k), full, ring.count, out);
+        let (rings, all_left) = (self.env.rings(), self.report.rings.as_slice());
+        for k in 0..8u8 {
+            let place = usize::from(k);
+            let (Some(ring), Some(left)) = (rings.get(place), all_left.get(place)) else {
+                return;
+            };
+            self.say_full(Entry::Ring(k), full[place], ring.count, out);
             if *left > 0 {
                 let were = word(*left, "packet was", "packets were");
                 out.say(format_args!("ring {k}: {left} {were} left at the end: "));
@@ -135,7 +143,8 @@ impl Noted<'_> {
 
     /// Says which buffers programs did not get.
     fn say_pools(self, refused: [u64; 8], out: &mut Text) {
-        for (k, number) in (0..8u32).zip(refused) {
+        for k in 0..8u32 {
+            let number = refused[k as usize];
             if number > 0 {
                 let times = word(number, "time", "times");
                 out.say(format_args!("pool {k}: alloc or clone got no buffers {number} {times}"));

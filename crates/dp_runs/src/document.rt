@@ -24,8 +24,10 @@ fn write_fault(answer: &Result<Report, RunFault>, to: &mut Document) {
 /// Adds the numbers of the ports.
 fn write_ports(report: &Report, full: [u64; 8], truncated: [u64; 8], to: &mut Document) {
     to.begin_list("ports");
-    let beside = full.into_iter().zip(truncated);
-    for (k, (port, (full, truncated))) in report.ports.as_slice().iter().zip(beside).enumerate() {
+    for k in 0..8 {
+        let Some(port) = report.ports.as_slice().get(k) else {
+            break;
+        };
         let (input, cut_at) = match port.state {
             InputState::Whole => ("whole", Item::Null),
             InputState::Cut(byte) => ("cut", Item::Number(byte)),
@@ -33,14 +35,14 @@ fn write_ports(report: &Report, full: [u64; 8], truncated: [u64; 8], to: &mut Do
         };
         let members = [
             ("cut_at", cut_at),
-            ("full", Item::Number(full)),
+            ("full", Item::Number(full[k])),
             ("input", Item::Text(input)),
             ("nobuf", Item::Number(port.nobuf)),
             ("oversize", Item::Number(port.oversize)),
             ("port", Item::Number(k as u64)),
             ("received", Item::Number(port.received)),
             ("sent", Item::Number(port.sent)),
-            ("truncated", Item::Number(truncated)),
+            ("truncated", Item::Number(truncated[k])),
         ];
         to.object("", &members);
     }
@@ -50,8 +52,13 @@ fn write_ports(report: &Report, full: [u64; 8], truncated: [u64; 8], to: &mut Do
 /// Adds the numbers of the rings.
 fn write_rings(report: &Report, full: [u64; 8], to: &mut Document) {
     to.begin_list("rings");
-    for (k, (left, full)) in report.rings.as_slice().iter().zip(full).enumerate() {
-        write_numbers(&[("full", full), ("left", *left), ("ring", k as u64)], to);
+    for k in 0..8 {
+        if let Some(left) = report.rings.as_slice().get(k) {
+            write_numbers(
+                &[("full", full[k]), ("left", *left), ("ring", k as u64)],
+                to,
+            );
+        }
     }
     to.end_list();
 }
@@ -59,9 +66,14 @@ fn write_rings(report: &Report, full: [u64; 8], to: &mut Document) {
 /// Adds the numbers of the pools.
 fn write_pools(report: &Report, refused: [u64; 8], to: &mut Document) {
     to.begin_list("pools");
-    for (k, (pool, refused)) in report.pools.as_slice().iter().zip(refused).enumerate() {
-        let (count, free) = (("count", pool.count), ("free", pool.free));
-        write_numbers(&[count, free, ("pool", k as u64), ("refused", refused)], to);
+    for k in 0..8 {
+        if let Some(pool) = report.pools.as_slice().get(k) {
+            let (count, free) = (("count", pool.count), ("free", pool.free));
+            write_numbers(
+                &[count, free, ("pool", k as u64), ("refused", refused[k])],
+                to,
+            );
+        }
     }
     to.end_list();
 }

@@ -124,7 +124,10 @@ pub fn say_listing(alloc: Global, out: &mut Text, judged: &Judged<'_>, source: &
     }
     let width = digits(source.len().saturating_sub(1));
     let (refused, mut before) = (refused_at(verdict), None);
-    for (number, (written, row)) in source.iter().zip(judged.cert.rows()).enumerate() {
+    for (number, written) in source.iter().enumerate() {
+        let Some(row) = judged.cert.rows().get(number) else {
+            break;
+        };
         out.say(if number == refused { "> " } else { "  " });
         say_blanks(out, " ", digits(number), width);
         out.say(format_args!("{number}  "));

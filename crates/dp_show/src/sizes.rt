@@ -122,22 +122,28 @@ fn say_line(out: &mut Text, words: &str, numbers: &[usize], bytes: u64) {
 /// Says the lines of the pools, the rings and the ports.
 fn say_parts(out: &mut Text, env: &Env) {
     let sizes = sizes_of(env);
-    for (k, (pool, size)) in env.pools().iter().zip(sizes.pools.as_slice()).enumerate() {
-        let numbers = [k, pool.count as usize, pool.room as usize];
-        say_line(out, "pool $  $ buffers with room $", &numbers, size.buffers);
-        say_line(
-            out,
-            "pool $  the queue of free buffers",
-            &numbers,
-            size.queue,
-        );
+    for k in 0..8 {
+        if let (Some(pool), Some(size)) = (env.pools().get(k), sizes.pools.as_slice().get(k)) {
+            let numbers = [k, pool.count as usize, pool.room as usize];
+            say_line(out, "pool $  $ buffers with room $", &numbers, size.buffers);
+            say_line(
+                out,
+                "pool $  the queue of free buffers",
+                &numbers,
+                size.queue,
+            );
+        }
     }
-    for (k, (ring, bytes)) in env.rings().iter().zip(sizes.rings.as_slice()).enumerate() {
-        say_line(out, "ring $  $ slots", &[k, ring.count as usize], *bytes);
+    for k in 0..8 {
+        if let (Some(ring), Some(bytes)) = (env.rings().get(k), sizes.rings.as_slice().get(k)) {
+            say_line(out, "ring $  $ slots", &[k, ring.count as usize], *bytes);
+        }
     }
-    for (k, (port, bytes)) in env.ports().iter().zip(sizes.lists.as_slice()).enumerate() {
-        let numbers = [k, port.queue as usize];
-        say_line(out, "port $  transmit list of $ slots", &numbers, *bytes);
+    for k in 0..8 {
+        if let (Some(port), Some(bytes)) = (env.ports().get(k), sizes.lists.as_slice().get(k)) {
+            let numbers = [k, port.queue as usize];
+            say_line(out, "port $  transmit list of $ slots", &numbers, *bytes);
+        }
     }
 }
 
