@@ -76,6 +76,17 @@ fn keep<'a>(
     Ok(())
 }
 
+/// Adds the files that a run reads besides its captures.
+fn keep_reads<'a>(kept: &mut Vec<Kept<'a>>, reads: &'a [ReadFile]) -> Result<(), AllocError>
+    ensures { OnOk result (targets kept.new.items ≡ targets kept.old.items ++ map read_target reads.now) }
+{
+    for read in reads {
+        let (target, name) = (target_of(read.id), read.name.as_str());
+        keep(kept, target, Some(name), CaptureReason::IsRead)?;
+    }
+    Ok(())
+}
+
 /// Adds the inputs of a run, as they are open.
 fn keep_inputs<'a, F: Read>(
     kept: &mut Vec<Kept<'a>>,
@@ -109,21 +120,18 @@ pub fn files_of_run<'a, R: Files>(
     requires { length inputs.now ≤ length names.now }
     ensures { IfOk result (λ kept. spec.AreFilesOf reads.now inputs.now kept.items) }
 {
-    let mut kept = Vec::new(alloc);
-    for read in reads {
-        let (target, name) = (target_of(read.id), read.name.as_str());
-        keep(&mut kept, target, Some(name), CaptureReason::IsRead)?;
-    }
-    keep_inputs(&mut kept, names, inputs)?;
-    let target = target_of(plain_file(rt, "/dev/stderr")?);
-    keep(&mut kept, target, None, CaptureReason::IsStderr)?;
+    let err = target_of(plain_file(rt, "/dev/stderr")?);
     // If an output is standard output, texts go to standard error.
-    let target = if take_stdout(names) {
+    let out = if take_stdout(names) {
         Target::Other
     } else {
         target_of(plain_file(rt, "/dev/stdout")?)
     };
-    keep(&mut kept, target, None, CaptureReason::IsStdout)?;
+    let mut kept = Vec::new(alloc);
+    keep_reads(&mut kept, reads)?;
+    keep_inputs(&mut kept, names, inputs)?;
+    keep(&mut kept, err, None, CaptureReason::IsStderr)?;
+    keep(&mut kept, out, None, CaptureReason::IsStdout)?;
     Ok(kept)
 }
 

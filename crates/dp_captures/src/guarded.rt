@@ -78,7 +78,6 @@ impl<W: Write> Guarded<W> {
     }
 
     /// Counts bytes that the inner writer took.
-    #[tactic(auto, using(crate::proofs::Took::piece_passes))]
     fn pass(&mut self, bytes: &[u8])
         ensures took { self.new.took.pieces ≡ self.old.took.pieces ++ bytes.now ∷ [] }
         ensures inner { self.new.inner ≡ self.old.inner }

@@ -5,6 +5,9 @@ use Rattle.dp_captures.proofs.Guarding.{apart_more, none_left}
 use Rattle.dp_captures.proofs.Opened.{output_named}
 use Rattle.dp_captures.proofs.guard.refuse_open.Goals as goal
 
+pub loop-port-init : goal.loop-port-init
+loop-port-init g c = λ rest. rest
+
 pub loop-port-preserved : goal.loop-port-preserved
 loop-port-preserved g c rest =
     let within : c.loop-port.port < length c.args.outputs.now = omega (arith, c.loop-port-test.true) in
@@ -13,6 +16,14 @@ loop-port-preserved g c rest =
 
 pub returns-clause-apart : goal.returns-clause-apart
 returns-clause-apart g c = c.loop-port.invariant (none_left output_target _ c.args.outputs.now c.loop-port.port (omega (arith, c.loop-port-test.false)))
+
+pub returns-in_err-add_output-clause-apart : goal.returns-in_err-add_output-clause-apart
+returns-in_err-add_output-clause-apart g c =
+    let is : c.from_residual.result ≡ Err c.in_err-add_output.field-0.0 = search rules in
+    rw is tt
+
+pub returns-clause-named : goal.returns-clause-named
+returns-clause-named g c = tt
 
 pub returns-in_err-add_output-clause-named : goal.returns-in_err-add_output-clause-named
 returns-in_err-add_output-clause-named g c =
