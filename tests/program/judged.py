@@ -20,6 +20,10 @@ SOLE, LONGER, SHORTER = "010102008000000000000001", "01010200800000000e000001", 
 ONE_BYTE, NONE = "010102008000000001000001", "01"
 STRIP = "iflen p0,14,short\nadj p0,14\ntx p0,r0,short\nexit\nshort: free p0\nexit\n"
 PASS = "tx p0,r0,d\nexit\nd: free p0\nexit\n"
+LABELLED = (
+    "# front\r\n\tone: two:\tiflen  p0, 14,short # at least # 14\r\nthree:\n\nfour: # of its own\n adj\tp0,14\ntx p0,r0,short\nexit\n"
+    "short:last: free p0\nexit"
+)
 # Rows of another program of as many instructions as STRIP has, and a program that loses its packet.
 OTHER, LOST = (SOLE, SOLE, SHORTER, NONE, SOLE, NONE), "exit\n" * 6
 
@@ -70,6 +74,10 @@ EXPLAINED = (
         "refused at 0 by J11", "1: tx p0,r0,d", "J11: the facts after the instruction satisfy the row of each successor",
         "p0 sole, headroom 128, at most 1 segment", "at 2, d: p0 sole, headroom 128, first 1, at most 1 segment",
         "let dpv infer write the certificate, or test for more before it")),
+    Case("explain-one", "\n tx  p0 ,r0,c # sent # out\r\nexit\na:\nb: c:free p0\nexit", (SOLE, NONE, ONE_BYTE, NONE), 1, explained(
+        "refused at 0 by J11", "2: tx  p0 ,r0,c # sent # out", "J11: the facts after the instruction satisfy the row of each successor",
+        "p0 sole, headroom 128, at most 1 segment", "at 2, a: p0 sole, headroom 128, first 1, at most 1 segment",
+        "let dpv infer write the certificate, or test for more before it")),
 )
 ENTRY = "p0 sole, headroom 128, at most 1 segment"
 SHOWN = (
@@ -104,6 +112,15 @@ SHOWN = (
   1      exit        + p0 empty
   2  d:  free p0     + p0 sole, headroom 128, first 1, at most 1 segment
   3      exit        + p0 empty
+"""),
+    # Two labels in a line, and in lines of their own; blanks, tabs and carriage returns; a comment with a second # in it; no newline at the end.
+    Case("show-one", LABELLED, (), 0, f"""port 0 accepted
+  0  one: two:     iflen  p0, 14,short  {ENTRY}; r0-r7 <= 0
+  1  three: four:  adj\tp0,14            + p0 first 14
+  2                tx p0,r0,short       + p0 headroom 142, first 0
+  3                exit                 + p0 empty
+  4  short: last:  free p0              + {ENTRY}
+  5                exit                 + p0 empty
 """),
 )
 ASM = """fault: pipeline 6 Asm port 0 line 2 cause 5

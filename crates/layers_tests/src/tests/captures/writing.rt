@@ -520,6 +520,71 @@ fn a_failed_writer_is_left_alone(rt: HostRuntime) {
     all_hold(&rt, rt.alloc(), &LEFT_ALONE);
 }
 
+/// A writer whose first call is interrupted, and that takes at most 7 bytes in each later one. It counts its calls, and how often it is flushed.
+#[derive(Drop)]
+struct Halting {
+    calls: usize,
+    flushes: usize,
+    held: Vec<u8>,
+}
+
+impl Write for Halting {
+    fn write(&mut self, buf: &[u8]) -> io::Result<usize> {
+        self.calls = self.calls.saturating_add(1);
+        if self.calls == 1 {
+            return Err(io::ErrorKind::Interrupted.into());
+        }
+        let taken = buf.len().min(7);
+        match buf.get(..taken) {
+            Some(front) if self.held.extend_from_slice(front).is_ok() => Ok(taken),
+            _ => Err(io::ErrorKind::OutOfMemory.into()),
+        }
+    }
+
+    fn flush(&mut self) -> io::Result<()> {
+        self.flushes = self.flushes.saturating_add(1);
+        Ok(())
+    }
+}
+
+// Such a writer behind a buffer that `HUNDRED` does not fill.
+fn interrupted_once(alloc: Global) -> io::Result<Buffered<Halting>> {
+    let inner = Halting {
+        calls: 0,
+        flushes: 0,
+        held: Vec::new(alloc),
+    };
+    Buffered::with_capacity(alloc, 101, inner)
+}
+
+// Whether it is called once more than it takes pieces of 7 bytes, holds all of `HUNDRED`, and is flushed once.
+fn has_all(inner: &Halting) -> bool {
+    inner.held.as_slice() == hundred() && inner.calls == 16 && inner.flushes == 1
+}
+
+// A writer behind a buffer is called again where it was interrupted, and where it took a part, and its flush comes after what the buffer held.
+#[test]
+fn a_flush_writes_all_and_goes_on(rt: HostRuntime) -> Result<(), Fail> {
+    let mut w = interrupted_once(rt.alloc())?;
+    let is_held = w.write(hundred())? == 100 && w.get_ref().calls == 0;
+    w.flush()?;
+    must(&rt, is_held && has_all(w.get_ref()), "all is written");
+    Ok(())
+}
+
+// What a buffer holds is written when it is dropped.
+#[test]
+fn a_dropped_buffer_is_written(rt: HostRuntime) -> Result<(), Fail> {
+    let file = fs::create(&rt, "pcap_dropped")?;
+    let mut w = Buffered::with_capacity(rt.alloc(), 101, file)?;
+    let is_held = w.write(hundred())? == 100 && fs::read(&rt, "pcap_dropped")?.is_empty();
+    drop(w);
+    let is_written = fs::read(&rt, "pcap_dropped")?.as_slice() == hundred();
+    must(&rt, is_held && is_written, "what was held");
+    fs::remove_file(&rt, "pcap_dropped")?;
+    Ok(())
+}
+
 // What is left of these lengths after those that a writer that takes `most` bytes a call is offered of one piece; none if they differ.
 fn after_piece(offered: &[usize], most: usize, piece: usize) -> Option<&[usize]> {
     let mut rest = offered;
