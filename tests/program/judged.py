@@ -20,6 +20,7 @@ SOLE, LONGER, SHORTER = "010102008000000000000001", "01010200800000000e000001", 
 ONE_BYTE, NONE = "010102008000000001000001", "01"
 STRIP = "iflen p0,14,short\nadj p0,14\ntx p0,r0,short\nexit\nshort: free p0\nexit\n"
 PASS = "tx p0,r0,d\nexit\nd: free p0\nexit\n"
+LOOPED = "set r1,0\nnext: add r1,1\njlt r1,3,next\njeq r1,3,on\non: jeq r1,4,far\nfar: jmp last\nlast: tx p0,r0,full\nexit\nfull: free p0\nexit\n"
 LABELLED = (
     "# front\r\n\tone: two:\tiflen  p0, 14,short # at least # 14\r\nthree:\n\nfour: # of its own\n adj\tp0,14\ntx p0,r0,short\nexit\n"
     "short:last: free p0\nexit"
@@ -112,6 +113,19 @@ SHOWN = (
   1      exit        + p0 empty
   2  d:  free p0     + p0 sole, headroom 128, first 1, at most 1 segment
   3      exit        + p0 empty
+"""),
+    # A loop, by a certificate that is inferred; and jumps to the instruction after them.
+    Case("show-one", LOOPED, (), 0, f"""port 0 accepted
+  0         set r1,0       {ENTRY}; r0-r7 <= 0
+  1  next:  add r1,1       + r1 <= 2
+  2         jlt r1,3,next  + r1 <= 3
+  3         jeq r1,3,on    as before
+  4  on:    jeq r1,4,far   as before
+  5  far:   jmp last       as before
+  6  last:  tx p0,r0,full  as before
+  7         exit           + p0 empty
+  8  full:  free p0        + {ENTRY}
+  9         exit           + p0 empty
 """),
     # Two labels in a line, and in lines of their own; blanks, tabs and carriage returns; a comment with a second # in it; no newline at the end.
     Case("show-one", LABELLED, (), 0, f"""port 0 accepted
