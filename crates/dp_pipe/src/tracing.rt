@@ -1,6 +1,6 @@
 //! Traces runs: shows the turns of the first records of a pipeline's captures to a tracer.
 
-ghost use Rattle.std.specs.Prelude.{◌≡◌, ℕ, ◌+◌, ◌<◌, ◌≤◌, ◌⊎◌, ◌↔◌, true, false, [], List, Err, length, map, IfErr, IsTrue, vec_len};
+ghost use Rattle.std.specs.Prelude.{◌≡◌, ℕ, ◌+◌, ◌<◌, ◌≤◌, ◌⊎◌, ◌↔◌, true, false, [], List, Err, Some, length, map, slice_get, IfErr, IsTrue, vec_len};
 ghost use Rattle.std.specs.Vec.{vec_capacity};
 ghost use Rattle.dp_pcap.specs.Source.{IsInRange, Moves, max_pulls};
 ghost use Rattle.dp_engine.specs.Engines.{EngineState, IsAscending};
@@ -9,6 +9,7 @@ ghost use Rattle.dp_pipe.specs.Devices.{Device, seen};
 ghost use Rattle.dp_pipe.specs.Forwarding.{LastPulls};
 ghost use Rattle.dp_pipe.specs.Tracing.{IsTraced, TracesNext, TracesStep, TracesUntil, TracesRound, TracesRecords, TracesFirst, NoneIsWanted};
 ghost use Rattle.dp_pipe.specs.Tracing.{CanTrace, IsOfInput};
+ghost use Rattle.dp_pipe.specs.declared.forwarding.InputProgress.{InputProgress as InputOf};
 
 use crate::forwarding::{InputProgress, MAX_RUN_TURNS, ROUNDS, RunCause, is_open};
 use crate::opening::opened;
@@ -182,6 +183,8 @@ fn trace_round<K: CompiledPrograms, R: Feed, T: Tracer>(
 fn is_any_left(inputs: &[InputProgress], which: Traced) -> bool
     requires few { length inputs.now ≤ 8 }
     ensures none { result ≡ false → NoneIsWanted which.port inputs.now which.records }
+    ensures some { result ≡ true → (0 < which.records) × ((q : ℕ) × (p : InputOf) × (slice_get inputs.now q ≡ Some p) × IsTraced which.port q
+        × (p.state ≡ InputState.Open)) }
 {
     if which.records == 0 {
         return false;
