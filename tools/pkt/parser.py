@@ -188,7 +188,7 @@ def combined(sign: str, left: Node, right: Node) -> Node:
     require(sign != "*" or isinstance(left, Number) or by is not None, right.at, "one side of a product is a constant", EACH)
     if isinstance(left, Number) and by is not None:
         value = OPERATORS[sign](left.value, by)
-        return Number(left.at, value & BIGGEST, wraps=left.wraps or value != value & BIGGEST)
+        return Number(left.at, value & BIGGEST, wraps=left.wraps or value != value & BIGGEST, is_masked=sign == "&")
     return Binary(left.at, sign, left, right)
 
 
@@ -244,16 +244,21 @@ class Parser(Lexer):
 
     def condition(self) -> Node:
         """A condition."""
-        at, node = self.place(), self.operation()
-        is_alone = isinstance(node, Number) and node.value > 1 and self.words[self.next - 1][1] == at and self.names.get(at.word) != "a parameter"
-        cure = f"x == {at.word} compares x with it, and {at.word} != 0 switches a part on"
-        require(not is_alone, at, f"{at.word} alone is a condition that never changes", cure)
-        return self.as_condition(node)
+        return self.as_condition(self.operation())
 
     def as_condition(self, node: Node) -> Node:
-        """A condition of the text, which does not hold for every number."""
+        """A condition of the text, which does not hold for every number, and asks something of the packet or is a switch."""
         require_open(node, self.headers)
+        if isinstance(node, Number) and self.names.get(node.at.word) != "a parameter":
+            self.require_switch(node, node.value < 2, f"x == {node.at.word} compares x with it")
         return as_condition(node)
+
+    def require_switch(self, it: Number, is_switch: bool, cure: str) -> None:
+        """Refuses a constant as a condition, unless it switches a part on or off, or is some bits of one, as DEBUG & 2."""
+        is_level = it.at.word in self.constants and it.value > 1
+        why = f": it is {it.value:,}, and only 0 and 1 are switches" if is_level else ""
+        cure += f"; {it.at.word} != 0 makes a switch of it" if is_level else ""
+        require(is_switch or it.is_masked, it.at, f"{it.at.word} alone is a condition that never changes{why}", cure)
 
     def number(self) -> Node:
         """A number."""
@@ -335,9 +340,9 @@ class Parser(Lexer):
             return self.compared(sign, left, right)
         for side in (left, right):
             # A constant with a name, of 0 or 1, may switch a part off.
-            is_switch = isinstance(side, Number) and side.value < 2 and self.names.get(side.at.word) in ("a constant", "a parameter")
-            is_open = not isinstance(side, Number) or is_switch
-            require(is_open, side.at, f"{side.at.word} alone is a condition that never changes", "x in {1, 2} compares x with each")
+            if isinstance(side, Number):
+                is_switch = side.value < 2 and self.names.get(side.at.word) in ("a constant", "a parameter")
+                self.require_switch(side, is_switch, "x in {1, 2} compares x with each")
         require_choice(sign, left, right)
         return (And if sign == "and" else Or)(left.at, self.as_condition(left), self.as_condition(right))
 
@@ -981,7 +986,7 @@ class Parser(Lexer):
             constant_of(as_number(value), f"let {at.word} = .. has a number that the packet gives")
         is_whole = not isinstance(value, Number) or not value.wraps
         require(is_whole, value.at, f"{at.word} is not from 0 to 2^64 - 1, and would be cut to 64 bits", "~0 has all 64 bits")
-        self.constants[at.word] = value  # type: ignore[assignment]
+        self.constants[at.word] = replace(value, is_masked=False) if isinstance(value, Number) else value  # type: ignore[assignment]
 
     def declare_otherwise(self, program: Program) -> None:
         require(not self.sees("{", ":"), self.place(), f"after `otherwise` is a statement, and this is {self.place().word!r}", "otherwise drop")

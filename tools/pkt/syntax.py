@@ -66,10 +66,15 @@ Block = tuple[Node, ...]
 Path = tuple[str, ...]
 
 # fmt: off
-# Numbers. `width` has the bits of an address, and else 0; one that `wraps` was cut to 64 bits. `Bits` are bits of
-# the packet that the compiler reads for its own use, `Wide` is an IPv6 address in two halves, which the parser takes apart.
+# Numbers. `width` has the bits of an address, and else 0; one that `wraps` was cut to 64 bits, one that
+# `is_masked` is the result of an &. `Bits` are bits of the packet that the compiler reads for its own use, `Wide` is an IPv6 address in two
+# halves, which the parser takes apart.
 class Numeric(Node): pass  # noqa: E302, E701
-class Number(Numeric): value: int; width: int = field(default=0, compare=False); wraps: bool = field(default=False, compare=False)  # noqa: E702
+class Number(Numeric):  # noqa: E302
+    value: int
+    width: int = field(default=0, compare=False)
+    wraps: bool = field(default=False, compare=False)
+    is_masked: bool = field(default=False, compare=False)
 class Wide(Numeric): high: Node; low: Node
 class Name(Numeric): name: str
 class Field(Numeric): header: str; name: str  # noqa: E702
