@@ -77,6 +77,7 @@ class Header:
     sizes: dict[int, int] = field(default_factory=dict)
     formula: Node | None = None
     next: str = ""
+    next_at: Place | None = None
     sum: str = ""
     payload: bool = False
     over: tuple[Field, ...] = ()
@@ -176,8 +177,18 @@ def check(header: Header, headers: Headers) -> None:
 def check_tag(header: Header, own: Span, headers: Headers) -> None:
     """Refuses a tag whose last field cannot replace the last field before it."""
     is_last = own.end == 8 * header.size and own.bits % 8 == 0
-    require(is_last, header.at, f"the field {header.next} of a tag is the last one, of whole bytes")
+    at, last = header.next_at or header.at, last_of(header, 0)
+    require(is_last, at, f"the field {header.next} of a tag is the last one, of whole bytes",
+            f"next {last} names the last one" if last else "a last field, as type:16, says what follows the tag; a header without `next` may end otherwise")
     for other, condition in header.follows.items():
-        asked = [headers[other].fields[name] for name in asked_of(condition)]
-        is_type = asked == [Span(8 * headers[other].size - own.bits, own.bits)]
-        require(is_type, header.at, f"a tag follows {other} where its last field, as wide as {header.next}, has one certain value")
+        name, asked = last_of(headers[other], own.bits), asked_of(condition)
+        cure = f"after {other} if {other}.{name} == 0x8100, with no `or`, no range and no other field; leave `next` out where it is no tag"
+        none = f"no field of {own.bits} bits ends {other}: leave `next` out, and `push` puts {header.name} in front"
+        is_type = [headers[other].fields[it] for it in asked] == [headers[other].fields[name]] if name else False
+        fault = f"a tag follows {other} where its last field, as wide as {header.next}, has one certain value"
+        require(is_type, condition.at, fault, cure if name else none)
+
+
+def last_of(header: Header, bits: int) -> str:
+    """The last field of a header, of this number of bits or, where it is 0, of whole bytes; else nothing."""
+    return next((name for name, it in header.fields.items() if it.end == 8 * header.size and (it.bits == bits if bits else it.bits % 8 == 0)), "")

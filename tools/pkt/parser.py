@@ -225,7 +225,7 @@ def without_zeros(word: str) -> str:
 class Parser(Lexer):
     """Reads a text. `unknown` has the names that are not numbers. The names of a `def` have a `suffix` where it
     is used, `active` are those that are being used. `below` is the `else` whose one statement, in a later line, was just read,
-    and the blanks before that."""
+    and the blanks before that. `begun` is where the statement begins that is being read."""
 
     def __init__(self, text: str, headers: Headers, folder: File | None = None) -> None:
         super().__init__(text, headers)
@@ -241,6 +241,7 @@ class Parser(Lexer):
         self.looked_up = ""
         self.notes, self.used, self.limits = dict[Place, str](), set[str](), dict[Node, int]()
         self.below: tuple[Place, str] | None = None
+        self.begun = self.place()
 
     def condition(self) -> Node:
         """A condition."""
@@ -614,18 +615,23 @@ class Parser(Lexer):
         return tuple(found)
 
     def fallback(self) -> Block | None:
-        """An `else` part. A statement without braces in a later line stands further to the right, and the next one does not stand below it."""
+        """An `else` part. The next statement does not stand below one without braces in a later line."""
         before = self.place()
         if not self.may("else"):
             return None
         at, is_one = self.place(), not self.sees("{")
-        margins = self.margin(before), self.margin(at)
-        is_below = is_one and self.kind != "end" and at.line > before.line
-        fault = f"this belongs to the `else` in {self.rows[before.line].place}, and does not stand further to the right"
-        require(not is_below or not margins[0].startswith(margins[1]), at, fault, f"write it in the line of `else`, or within braces: {BRACED}")
+        self.refuse_left(before, at)
         body = self.block(may_be_one=True)
-        self.below = (before, margins[1]) if is_below else None
+        self.below = (before, self.margin(at)) if is_one and at.line > before.line else None
         return body
+
+    def refuse_left(self, before: Place, at: Place) -> None:
+        """Refuses a statement without braces in a line after its `else` that stands further to the right neither than that line nor than the line
+        where the statement begins to which the `else` belongs."""
+        is_left = all(self.margin(it).startswith(self.margin(at)) for it in (before, self.begun))
+        is_below = not self.sees("{") and self.kind != "end" and at.line > before.line
+        fault = f"this belongs to the `else` in {self.rows[before.line].place}, and does not stand further to the right"
+        require(not is_below or not is_left, at, fault, f"write it in the line of `else`, or within braces: {BRACED}")
 
     def margin(self, at: Place) -> str:
         """The blanks at the begin of a word's line."""
@@ -637,7 +643,7 @@ class Parser(Lexer):
         if self.below is not None:
             before, margin = self.below
             is_first = not self.rows[at.line].text[: at.column - 1].strip()
-            is_beside = is_first and at.line > before.line and self.margin(at) == margin
+            is_beside = is_first and at.line > before.line and self.margin(at).startswith(margin)
             fault = f"this does not belong to the `else` in {self.rows[before.line].place}, and stands below what does"
             require(not is_beside, at, fault, f"the `else` has one statement, or several within braces: {BRACED}")
         self.below = None
@@ -646,8 +652,9 @@ class Parser(Lexer):
         """An `else` part, which may be absent. The `if` after an `else`, and the one after its `else`, are read one after another."""
         found = list[tuple[Place, Node, Block]]()
         while self.sees("else") and self.place(1).word == "if":
-            self.take()
-            at, condition = self.take(), self.condition()
+            self.refuse_left(self.take(), self.place())
+            at = self.begun = self.take()
+            condition = self.condition()
             self.refuse_unknown()
             require(len(found) <= MAX_ITEMS, at, f"more than {MAX_ITEMS:,} `else if`: each takes an instruction", "a table: let x = lookup ..")
             found.append((at, condition, self.block()))
@@ -658,8 +665,9 @@ class Parser(Lexer):
 
     def statement(self, before: Block = ()) -> Block:
         """A statement: its first word gives its kind, and the table the syntax after it. An assignment to an IPv6 address is two."""
-        at = self.place()
+        at, outside = self.place(), self.begun
         self.refuse_below(at)
+        self.begun = at
         self.statements += 1
         require(self.statements <= MAX_STATEMENTS, at, f"more than {MAX_STATEMENTS:,} statements", "a program has at most 1,024 instructions")
         if self.starts("count"):
@@ -684,6 +692,7 @@ class Parser(Lexer):
             require(not goes_on(it.fallback), at, "what is after this `else` has to end the program", "end it with drop or send")
         if isinstance(it, (Let, Lookup, Clone, New)):
             self.declare(at, it.name.split(PRIME)[0], "a variable" if isinstance(it, (Let, Lookup)) else "a packet")
+        self.begun = outside
         return all_of
 
     def comma_before(self, end: str) -> None:
@@ -1099,10 +1108,16 @@ class Parser(Lexer):
         header.sizes = {value: constant_of(substituted(formula, Number(header.at, value))) for value in range(low, high + 1)}
 
     def clause_next(self, header: Header) -> None:
-        header.next = self.field_name(header.name)
+        header.next_at, header.next = self.place(), self.clause_field(header)
+
+    def clause_field(self, header: Header) -> str:
+        """The field that a clause names, which is one and no two halves."""
+        at, name = self.place(), self.field_name(header.name)
+        require(name in header.fields, at, f"{name} has 128 bits, and is two fields here", f"{name}_hi and {name}_lo are its halves")
+        return name
 
     def clause_sum(self, header: Header) -> None:
-        header.sum, header.payload, header.over = self.field_name(header.name), self.may("payload"), ()
+        header.sum, header.payload, header.over = self.clause_field(header), self.may("payload"), ()
         is_over = self.may("over")
         while is_over and (not header.over or self.sees_header(".")):
             it = self.field()
