@@ -1296,6 +1296,7 @@ class Reached(unittest.TestCase):
 
 
     def test_notes_on_what_is_seldom_meant(self) -> None:
+        pppoe = "header pppoe { a:16 session:16 length:16 proto:16 } after eth if eth.type == 0x8864\nextend ipv4 after pppoe if pppoe.proto == 0x21"
         wanted = {
             "ipv4.ttl -= 1": "line 1: ipv4.sum stays as it was; mend ipv4.ttl = .. updates what covers ipv4.ttl",
             "eth.src = 5\nl4.dport = 80": "line 2: the checksum of TCP or UDP stays as it was; mend tcp.dport = .. updates that of TCP",
@@ -1309,6 +1310,11 @@ class Reached(unittest.TestCase):
             "clone c from 0": "line 1: c is never sent, and is dropped at the end of its block",
             "def f() { new h from 0 push eth { } on h }\nf()": "line 1: h is never sent",
             "def f() { fnord }": "line 1: f is used nowhere, so its block was not read",
+            "push mpls { ttl = 64 }": "line 1: mpls is put at the front of the packet, with no eth before it; cut 14 and push eth { .. } mpls { .. }",
+            "push qinq { vid = 1 } vlan { vid = 2 }": "line 1: qinq is put before the Ethernet header, with the headers pushed with it; a tag that",
+            "new h from 0\npush vlan { } on h\nsend h to 0": "line 2: vlan is put at the front of h, with no eth before it; push eth { .. } vlan { .. } on h",
+            f"{pppoe}\nneed ipv4": "line 2: pppoe is named nowhere else, so ipv4 is never looked for after it; if pppoe {} looks for it, before ipv4",
+            "header h { a:8 } after eth if eth.type == 5 after vlan if vlan.type == 5\nneed h": "line 1: vlan is named nowhere else, so h is never",
         }
         for source, text in wanted.items():
             with self.subTest(source):
@@ -1319,6 +1325,9 @@ class Reached(unittest.TestCase):
                        "let a = udp.sport\nlet b = udp.dport\nudp.sport = b\nudp.dport = a", "let a = l4.sport\nl4.sport = l4.dport\nl4.dport = a",
                        "ipv4.src ^= ipv4.dst\nipv4.dst ^= ipv4.src\nipv4.src ^= ipv4.dst", "const GATEWAY = 192.0.2.1\nneed ipv4.dst in GATEWAY/24",
                        "push eth { } ipv4 { len = 36 src = 1 dst = 2 } udp { len = 16 } vxlan { }\nudp.sport = 5", "need ipv4.ihl - 5 > 0",
+                       "push mpls { }\npush eth { }", "push vlan { vid = 2 }\npush qinq { vid = 1 }", "push mpls { }\nif tcp { queue 0 }", pppoe,
+                       f"{pppoe}\nif pppoe.session == 5 {{ drop }}\nneed ipv4", f"{pppoe}\nif pppoe {{}}\nmend ipv4.ttl -= 1",
+                       "header h { a:8 } after ipv4 if ipv4.proto == 200 after ipv6 if ipv6.next == 200\nneed h",
                        "need ipv4.len >= 28\nneed ipv4.len - 28 < 512", "need ipv4.len > 40 and ipv4.len - 40 < 100"):
             with self.subTest(source):
                 self.assertEqual(compiled(source + "\nsend port").note, "")

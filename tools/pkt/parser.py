@@ -91,7 +91,8 @@ class Function(NamedTuple):
 
 @dataclass
 class Program:
-    """A text: its declarations, its statements and its lines. `headroom`, `length`, `given` and `is_shared` are what the ring of a program declares."""
+    """A text: its declarations, its statements and its lines. `headroom`, `length`, `given` and `is_shared` are what the ring of a program declares,
+    `clauses` are the headers that follow others, each with the place of the other in its `after`."""
 
     headers: Headers
     ports: int = 1
@@ -106,6 +107,7 @@ class Program:
     statements: Block = ()
     rows: list[Row] = field(default_factory=list)
     notes: dict[Place, str] = field(default_factory=dict)
+    clauses: list[tuple[str, Place]] = field(default_factory=list)
 
     @property
     def is_for_ring(self) -> bool:
@@ -240,6 +242,7 @@ class Parser(Lexer):
         self.given: set[str] = set()
         self.looked_up = ""
         self.notes, self.used, self.limits = dict[Place, str](), set[str](), dict[Node, int]()
+        self.clauses = list[tuple[str, Place]]()
         self.below: tuple[Place, str] | None = None
         self.begun = self.place()
 
@@ -889,7 +892,7 @@ class Parser(Lexer):
             DECLARATIONS[at.word](self, program)
         unused = [it for name, it in self.functions.items() if name not in self.used and self.rows[it.at.line].path is None]
         self.notes |= {it.at: f"{it.at.word} is used nowhere, so its block was not read" for it in unused}
-        program.rows, program.notes = self.rows, self.notes
+        program.rows, program.notes, program.clauses = self.rows, self.notes, self.clauses
         return program
 
     def declares(self) -> bool:
@@ -981,6 +984,7 @@ class Parser(Lexer):
         condition = self.condition()
         self.unknown = []
         self.headers.extend(at.word, other.word, condition)
+        self.clauses.append((at.word, other))
         check(self.headers[at.word], self.headers)
 
     def declare_const(self, _: Program) -> None:
@@ -1085,6 +1089,7 @@ class Parser(Lexer):
         require(other.word not in header.follows, other, f"{header.name} follows {other.word} already", cure)
         self.take("if")
         header.follows[other.word] = self.condition()
+        self.clauses.append((header.name, other))
 
     def clause_length(self, header: Header) -> None:
         header.formula = formula = self.number()
