@@ -376,7 +376,7 @@ class Slips(unittest.TestCase):
          "table ROUTES = 0\nlet h = lookup ROUTES ipv4.dst\nsend h"),
         ("header h { a:8 } after udp\nsend port", "2:1: 'if' is wanted here", "after udp if udp.dport == 7", "header h { a:8 } after udp if udp.dport == 7\nsend port"),
         ("header h { a:8 } length v * 4 for v in 1..3\nsend port", "1:37", "for v:8 in 5..15", "header h { a:8 } length v * 4 for v:8 in 1..3\nsend port"),
-        ("header h { a:8 len:8 } length v * 4 for v:16 in 0x0601..0x1106\nsend port", "1:57", "at most 256 values",
+        ("header h { a:8 len:8 } length v * 4 for v:16 in 0x0601..0x1106\nsend port", "1:57", "0x0601..0x0606 in one, 0x1101..0x1106 in another",
          "header h { a:8 len:8 } length (v & 255) * 4 for v:16 in 0x0601..0x0606\nsend port"),
         ("header h { name:512 }\nsend port", "1:8", "a field has at most 64 bits", "header h { name:64 more:64 }\nsend port"),
         ("push vlan { vid == 5 }\nsend port", "1:17", "an = is before the value", "push vlan { vid = 5 }\nsend port"),

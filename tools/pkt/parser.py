@@ -1105,12 +1105,18 @@ class Parser(Lexer):
         low = self.constant()
         self.take("..")
         at, high, most = self.place(), self.constant(), min(low + 255, (1 << header.bits) - 1)
-        cure = "a range has at most 256 values: a second header has the others" if high > most else "the smaller one comes first"
+        cure = f"{variable} has {header.bits} bits" if high >> header.bits else self.cure_of_range(low, high) if high > most else "the smaller one comes first"
         require(low <= high <= most, at, f"the last value is from {low:,} to {most:,}, and this is {high:,}", cure)
         for it in parts(formula):
             is_own = not isinstance(it, Field) and (not isinstance(it, Name) or it.name == variable)
             require(is_own, it.at, "a length is calculated from its own variable and constants", OTHER_LENGTH)
         header.sizes = {value: constant_of(substituted(formula, Number(header.at, value))) for value in range(low, high + 1)}
+
+    def cure_of_range(self, low: int, high: int) -> str:
+        """The cure for a range of more than 256 values, of which the last eight bits are the length, and what is before them one number for each header."""
+        first, last = (low & 255, high & 255) if low & 255 <= high & 255 else (0, 255)
+        ranges = f"{low & ~255 | first:#06x}..{low & ~255 | last:#06x} in one, {high & ~255 | first:#06x}..{high & ~255 | last:#06x} in another"
+        return f"a range has at most 256 values, and each takes instructions: declare one header for each number before the length, with {ranges}"
 
     def clause_next(self, header: Header) -> None:
         header.next_at, header.next = self.place(), self.clause_field(header)
