@@ -27,7 +27,7 @@ CURES = {
     ".": "a field has no parts, and tcp.flags & 2 is a bit of one; an IPv4 address has four parts",
     "{": f"a block comes after a condition; {LIST}",
     "}": "an item is missing before it: a list has one at least, and no comma at its end, and a range has two ends",
-    "[": "a list is within braces, x in {1, 2}; a byte of a header is a field",
+    "[": "a list is within braces, x in {1, 2}; a byte of a header is a field, as tcp.flags",
     '"': "a text ends in its line",
     "'": "a text is within double quotes, and a number within none",
     "\\": "a statement may go on in the next line without a sign",
@@ -65,8 +65,8 @@ SLIPS = {
         "struct typedef parser extract follows on when state transition select",
     ALONE: "apply control main filter",
     "statements begin with let, if, while, need, drop, send: send port sends the packet to where it came from, and send 1 to port 1":
-        "accept pass allow permit forward redirect output",
-    "write drop": "reject deny block discard mark_to_drop",
+        "accept pass allow permit forward redirect output XDP_PASS XDP_TX XDP_REDIRECT TC_ACT_OK NF_ACCEPT",
+    "write drop": "reject deny block discard mark_to_drop XDP_DROP XDP_ABORTED TC_ACT_SHOT NF_DROP",
     "count web counts packets, and nothing is printed": "log print printf printk counter",
     "mend ipv4.dst = 10.0.0.1 changes an address and its checksums": "dnat snat nat masquerade",
     "a rule is as if tcp.dport == 80 { drop }": "host src dst ip ip6 ether rule iptables nft add",
@@ -116,8 +116,10 @@ MASKED = {
     "tcp.flags": "1 is FIN, 2 SYN, 4 RST, 8 PSH and 16 ACK", "ipv4.flags": "1 says that more fragments follow, and 2 forbids them",
     "ipv4.frag": "ipv4.pieces has the bit for more fragments too: need ipv4.pieces == 0",
 }  # fmt: skip
+# What one of a field is, where others count bytes.
+COUNTED = dict.fromkeys(("ipv4.ihl", "tcp.off"), "it counts 4 bytes: 5 are 20 bytes") | {"ipv4.frag": "it counts 8 bytes: 185 are 1,480 bytes"}
 NUMBERS = {
-    **BITS["tcp"], **{f"tcp_{name}": value for name, value in BITS["tcp"].items()}, "ipproto_icmp": 1, "ipproto_tcp": 6, "ipproto_udp": 17, "ipproto_gre": 47,
+    **BITS["tcp"], **BITS["ipv4"], "broadcast": 0xFFFFFFFFFFFF, **{f"tcp_{name}": value for name, value in BITS["tcp"].items()}, "ipproto_icmp": 1, "ipproto_tcp": 6, "ipproto_udp": 17, "ipproto_gre": 47,
     "ipproto_icmpv6": 58, "eth_p_ip": 0x0800, "eth_p_arp": 0x0806, "eth_p_ipv6": 0x86DD, "eth_p_8021q": 0x8100, "http": 80, "https": 443, "ssh": 22,
     "dns": 53, "ef": 46, **{f"cs{k}": 8 * k for k in range(8)}, **{f"af{k}{n}": 8 * k + 2 * n for k in range(1, 5) for n in range(1, 4)},
 }  # fmt: skip

@@ -7,7 +7,7 @@ from dataclasses import dataclass, field, replace
 from pathlib import Path as File
 from typing import NamedTuple
 
-from .cures import ALONE, BITS, CURES, FIELD, LOOKUP, MASKED, WANTED, call_meant, cure_of, meant, number_meant
+from .cures import ALONE, BITS, COUNTED, CURES, FIELD, LOOKUP, MASKED, WANTED, call_meant, cure_of, meant, number_meant
 from .headers import Header, Headers, Span, check
 from .lexer import RESERVED, Lexer, require_word
 from .syntax import (
@@ -346,7 +346,9 @@ class Parser(Lexer):
             # A constant with a name, of 0 or 1, may switch a part off.
             if isinstance(side, Number):
                 is_switch = side.value < 2 and self.names.get(side.at.word) in ("a constant", "a parameter")
-                self.require_switch(side, is_switch, "x in {1, 2} compares x with each")
+                is_bit = isinstance(left, Binary) and left.sign == "&"
+                cure = "x & 3 == 3 asks for two bits, x & 3 for one of them" if is_bit else "x in {1, 2} compares x with each"
+                self.require_switch(side, is_switch, cure)
         require_choice(sign, left, right)
         return (And if sign == "and" else Or)(left.at, self.as_condition(left), self.as_condition(right))
 
@@ -395,7 +397,7 @@ class Parser(Lexer):
         right = as_side(self.operation(NUMBERS))
         if self.may(".."):
             require(not isinstance(right, Wide), right.at, "IPv6 addresses have no range", "a prefix, as 2001:db8::/32")
-            low, high = Number(right.at, constant_of(right)), Number(right.at, self.constant())
+            low, high = Number(right.at, constant_of(right)), Number(self.place(), self.constant())
             require(low.value <= high.value, low.at, f"no number is from {low.value:,} to {high.value:,}", "the smaller one comes first")
             return [Item(right.at, low, last=high)]
         if self.may("/"):
@@ -453,7 +455,9 @@ class Parser(Lexer):
         """Refuses a constant that no value of a field is."""
         if isinstance(it, Field) and isinstance(value, Number):
             span, name = self.span_of(it), f"{it.header}.{it.name}"
-            cure = f"{value.value & span.largest} are its lowest {span.bits} bits"
+            low = value.value & span.largest
+            cure = f"{low} are its lowest {span.bits} bits" if low else f"the greatest one is {span.largest}, also in a range, which has both its ends"
+            cure = COUNTED.get(name) or MASKED.get(name) or cure
             cure = "it is below 0, and was cut to 64 bits; a range has two points: x in 1..5" if value.wraps else cure
             is_own = value.width != 32 or span.bits != 48
             fault = f"{name} has 48 bits, and {value.at.word} is an IPv4 address of 32"
@@ -480,6 +484,8 @@ class Parser(Lexer):
                 if self.take().word == "~":
                     return combined("^", self.operand(), Number(at, BIGGEST))
                 node = self.operation()
+                if self.sees("("):
+                    self.refuse_unknown()
                 self.take(")", "" if self.sees(",") else f"the ( in {self.rows[at.line].place}, column {at.column} is open")
                 return node
         if self.may("length"):

@@ -13,14 +13,16 @@ from .parser import Program
 from .registers import Value
 from .state import NEAR, NOTHING, SOMEBODY, Far, Needs, Packet
 from .syntax import (
-    BIGGEST, PORT, THIS, And, Assign, Block, Chain, Clone, Compare, Count, Cut, Drop, Free, If, Inline, Let, Lookup, Mend, Name, Need, New, Node,
-    NoRegister, Not, Number, Or, Pop, Push, Send, Truncate, While, has, parts, require,
+    BIGGEST, PORT, THIS, And, Assign, Block, Chain, Clone, Compare, Count, Cut, Drop, Field, Found, Free, If, Inline, Length, Let, Lookup, Mend, Name,
+    Need, New, Node, NoRegister, Not, Number, Or, Pop, Push, Send, Truncate, While, has, parts, require,
 )
 from .ways import Join, Unit, Way, paths
 
 MAX_PORT = 7
 SIGNS = {"==": operator.eq, "!=": operator.ne, "<": operator.lt, ">": operator.gt, "<=": operator.le, ">=": operator.ge}
 UNREACHED = "control never comes here: what was asked before decides it"
+ASKED = (Name, Field, Found, Length)
+ANEW = "delete it; a variable begins anew with each packet, and nothing is kept from one to the next"
 
 
 def compile_program(program: Program) -> Graph:
@@ -47,7 +49,7 @@ def compile_unit(program: Program, unit: Unit) -> Graph:
     block([way], program.statements, end)
     for way in end.ways:
         way.drop()
-    refuse_unreached(program.statements, unit.reached)
+    refuse_unreached(program.statements, unit.reached, counters_of(program.statements))
     return Graph(first)
 
 
@@ -95,17 +97,31 @@ def body(text: Block | None, join: Join[Way], after: Join[Way]) -> None:
         block(list(join.begin()), text, after)
 
 
-def refuse_unreached(block: Block, reached: set[int]) -> None:
+def counters_of(text: Block) -> set[str]:
+    """The variables that get nothing but what is calculated from constants and themselves."""
+    found, others = set[str](), set[str]()
+    for it in parts(text):
+        if not isinstance(it, (Let, Lookup, Assign)):
+            continue
+        name = it.name if isinstance(it, (Let, Lookup)) else it.target.name
+        is_own = not isinstance(it, Lookup) and not has(it, Field) and {part.name for part in parts(it) if isinstance(part, Name)} <= {name}
+        (found if is_own else others).add(name)
+    return found - others
+
+
+def refuse_unreached(block: Block, reached: set[int], counters: set[str]) -> None:
     """Refuses statements that control never reaches, except in `else` parts and under conditions that constants decide."""
     for number, it in enumerate(block):
         # The second half of an assignment to an IPv6 address stands at the place of the first.
         is_half = number > 0 and it.at == block[number - 1].at
         require(id(it) in reached or is_half, it.at, UNREACHED, "delete it, or ask another question before")
         while isinstance(it, (If, While)) and decided(it.condition) is None:
-            refuse_unreached(it.body, reached)
+            is_counted = all(isinstance(part, Name) and part.name in counters for part in parts(it.condition) if isinstance(part, ASKED))
+            require(not is_counted or not it.body or id(it.body[0]) in reached, it.body[0].at if it.body else it.at, UNREACHED, ANEW)
+            refuse_unreached(it.body, reached, counters)
             rest = it.fallback if isinstance(it, If) else ()
             if len(rest) != 1 or not isinstance(rest[0], If):
-                refuse_unreached(rest, reached)
+                refuse_unreached(rest, reached, counters)
                 break
             it = rest[0]
             require(id(it) in reached, it.at, UNREACHED, "delete it, or ask another question before")
