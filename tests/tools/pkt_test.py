@@ -1320,6 +1320,15 @@ class Reached(unittest.TestCase):
             "clone c from 0": "line 1: c is never sent, and is dropped at the end of its block",
             "def f() { new h from 0 push eth { } on h }\nf()": "line 1: h is never sent",
             "def f() { fnord }": "line 1: f is used nowhere, so its block was not read",
+            "cut 14\npush eth { } ipv4 { len = ipv4.len ttl = 9 }": "line 2: ipv4 is read after line 1 took the Ethernet header off, and is no longer",
+            "pop eth\nif tcp.dport == 80 { drop }": "line 2: tcp is read after line 1 took the Ethernet header off",
+            "pop eth/ipv4/gre\nif gre.type == 3 { drop }": "line 2: gre is read after line 1 took gre off",
+            "push eth { } ipv4 { len = 20 }": "line 1: ipv4.ttl is not named, and is 0: the next router drops such a packet",
+            "tcp.sum = 0\nmend ipv4.src = 5": "line 1: `mend` updates tcp.sum, and calculates none from 0",
+            "let p = tcp.dport\nports 4\nif ipv4 { send p }": "line 3: tcp.dport is the port of a program on a host",
+            "need tcp.seq - tcp.ack > 1000": "line 1: a difference is a great number where it would be below 0, as numbers are unsigned; x > y + 5",
+            "need ipv4 or tcp or udp and l4.dport == 53": "line 1: `and` binds closer than `or`: this is tcp or (udp and ..)",
+            "if eth.dst & 1 == 1 { drop }": "line 1: 1 is the last bit of eth.dst; eth.dst & 01:00:00:00:00:00",
             "push mpls { ttl = 64 }": "line 1: mpls is put at the front of the packet, with no eth before it; cut 14 and push eth { .. } mpls { .. }",
             "push qinq { vid = 1 } vlan { vid = 2 }": "line 1: qinq is put before the Ethernet header, with the headers pushed with it; a tag that",
             "new h from 0\npush vlan { } on h\nsend h to 0": "line 2: vlan is put at the front of h, with no eth before it; push eth { .. } vlan { .. } on h",
@@ -1334,13 +1343,20 @@ class Reached(unittest.TestCase):
                        "new h from 0\npush eth { } on h\nchain h before this", "def f() { drop }\nif tcp { f() }", "clone c from 0\nfree c",
                        "let a = udp.sport\nlet b = udp.dport\nudp.sport = b\nudp.dport = a", "let a = l4.sport\nl4.sport = l4.dport\nl4.dport = a",
                        "ipv4.src ^= ipv4.dst\nipv4.dst ^= ipv4.src\nipv4.src ^= ipv4.dst", "const GATEWAY = 192.0.2.1\nneed ipv4.dst in GATEWAY/24",
-                       "push eth { } ipv4 { len = 36 src = 1 dst = 2 } udp { len = 16 } vxlan { }\nudp.sport = 5", "need ipv4.ihl - 5 > 0",
-                       "push mpls { }\npush eth { }", "push vlan { vid = 2 }\npush qinq { vid = 1 }", "push mpls { }\nif tcp { queue 0 }", pppoe,
+                       "push eth { } ipv4 { len = 36 ttl = 9 src = 1 dst = 2 } udp { len = 16 } vxlan { }\nudp.sport = 5", "need ipv4.ihl - 5 > 0",
+                       "push mpls { ttl = 9 }\npush eth { }", "push mpls { bottom = 1 }\npush eth { type = 0x8847 }\nmpls.ttl = 64", "push vlan { vid = 2 }\npush qinq { vid = 1 }", "push mpls { ttl = 9 }\nif tcp { queue 0 }", pppoe,
+                       "let n = ipv4.len\ncut 14\npush eth { } ipv4 { len = n ttl = 9 }\nneed ipv4", "if eth.type == 0x88b5 { cut 14 }\nneed eth.type == 5\npop eth\nneed ipv4",
+                       "pop eth/ipv4/udp/vxlan\nneed ipv4.ttl > 5", "udp.sum = 0\nmend udp.dport = 5", "ipv4.sum = 0\nmend tcp.dport = 5", "need tcp or (udp and l4.dport == 5)",
+                       "need tcp.seq > tcp.ack\nneed tcp.seq - tcp.ack > 9", "need eth.src & 1", "need eth.dst & 01:00:00:00:00:00", "while vlan { pop vlan }",
                        f"{pppoe}\nif pppoe.session == 5 {{ drop }}\nneed ipv4", f"{pppoe}\nif pppoe {{}}\nmend ipv4.ttl -= 1",
                        "header h { a:8 } after ipv4 if ipv4.proto == 200 after ipv6 if ipv6.next == 200\nneed h",
                        "need ipv4.len >= 28\nneed ipv4.len - 28 < 512", "need ipv4.len > 40 and ipv4.len - 40 < 100"):
             with self.subTest(source):
                 self.assertEqual(compiled(source + "\nsend port").note, "")
+        ends = {"if tcp { count web }": "line 1: no packet is sent: all are dropped at the end of the text", "if tcp { count web }\ndrop": "", "drop": "",
+                "otherwise send port\nif tcp { drop }": "", "queue 0": "", "": ""}
+        for source, text in ends.items():
+            self.assertEqual(compiled(source).note[: len(text) or None], text)
         rules = "".join(f"need not ipv4.src in 10.0.0.{k}/24\n" for k in range(1, 3)) + "".join(f"ipv4.tos = {k}\n" for k in range(20))
         self.assertEqual(compiled(rules + "send port").note.splitlines()[-1], "12 notes more")
 

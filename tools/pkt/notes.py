@@ -1,16 +1,20 @@
 """Notes on what is no error and is seldom meant: checksums that stay as they were, packets that are made and never sent, blocks that nothing
-uses, headers that come before the Ethernet header, and `after` clauses that no search uses."""
+uses, headers that come before the Ethernet header or are read after it was taken off, `after` clauses that no search uses, and so on."""
 from collections.abc import Iterable, Iterator
 
 from .headers import Headers
 from .parser import Program
 from .syntax import (
-    OWN, THIS, Assign, Binary, Chain, Clone, Field, Found, Free, Let, Mend, Name, New, Node, Place, Pop, Push, Send, parts,
+    OWN, THIS, Assign, Binary, Block, Chain, Clone, Compare, Cut, Field, Found, Free, If, Let, Mend, Name, Need, New, Node, Number, Place, Pop, Push, Send,
+    Truncate, While, children, goes_on, has, parts,
 )
 
 # How many notes are shown.
 MAX_NOTES = 10
 Noted = tuple[Place, str]
+# The fields with how many hops a packet goes on.
+HOPS = {"ipv4": "ttl", "ipv6": "hops", "mpls": "ttl"}
+TYPE = Field(Place(0, 0, ""), "eth", "type")
 # The notes on a header at the front of a packet: the header, the packet, and the header that should come before.
 FRONT = {
     "tag": "{0} is put before the Ethernet header, with the headers pushed with it; a tag that is pushed alone is put behind it: the inner one first",
@@ -23,6 +27,7 @@ def notes_of(program: Program) -> list[str]:
     """The notes on a text, in its order, each with its line."""
     statements = list(parts(program.statements))
     found = [*program.notes.items(), *stale(statements, program.headers), *kept(statements), *in_front(statements, program.headers), *unasked(program)]
+    found += [*taken_off(program), *zeros(statements), *cleared(statements, program.headers), *sent_nowhere(program), *sent_to_a_field(statements)]
     said = dict.fromkeys(f"{program.rows[at.line].place}: {OWN.sub('', text)}" for at, text in sorted(found, key=lambda it: it[0][:2]))
     return [*list(said)[:MAX_NOTES], *([f"{len(said) - MAX_NOTES} notes more"] if len(said) > MAX_NOTES else [])]
 
@@ -60,6 +65,82 @@ def kept(statements: list[Node]) -> Iterator[Noted]:
     for it in statements:
         if isinstance(it, (Clone, New)) and it.name not in used:
             yield it.at, f"{it.name} is never sent, and is dropped at the end of its block; send {it.name} to 1 sends it"
+
+
+def blocks_of(text: Block) -> Iterator[Block]:
+    """A block, and all blocks in its statements."""
+    pending: list[object] = [text]
+    while pending:
+        part = pending.pop()
+        if isinstance(part, tuple) and any(isinstance(it, Node) for it in part):
+            yield part
+        pending += children(part)
+
+
+def taken_off(program: Program) -> Iterator[Noted]:
+    """Headers that are read after a statement took them off, or the Ethernet header that they follow. A program that asks for the type of an
+    Ethernet header, or is for a ring, may know of another one behind it."""
+    asks = (it for it in parts(program.statements) if isinstance(it, Compare) and TYPE in parts(it))
+    if not program.is_for_ring and next(asks, None) is None:
+        for block in blocks_of(program.statements):
+            yield from read_in(block, program)
+
+
+def read_in(block: Block, program: Program) -> Iterator[Noted]:
+    """The same in one block, until other bytes are put in front."""
+    before, gone = Place(0, 0, ""), set[str]()
+    for it in block:
+        changes = has(it, Push, Pop, Cut, Truncate, Chain) if gone else isinstance(it, (Pop, Cut))
+        asked = it.condition if changes and isinstance(it, (If, Need, While)) else it
+        name = next((name for part in parts(asked) for name in headers_of(part, program.headers) if name in gone), "") if gone else ""
+        if name:
+            what = f"{name} is read after {program.rows[before.line].place} took {name if len(gone) == 1 else 'the Ethernet header'} off"
+            yield it.at, f"{what}, and is no longer there; let x = .. before that keeps a number"
+        before, gone = (it.at, gone_after(it, program.headers)) if changes or name else (before, gone)
+
+
+def gone_after(it: Node, headers: Headers) -> set[str]:
+    """The headers that are not found after a statement: those after Ethernet if it took that off, or the last one of a path."""
+    path = it.path if isinstance(it, Pop) else ("eth",) if isinstance(it, Cut) and (it.packet, it.count) == (THIS, headers["eth"].size) else ()
+    if path[:1] != ("eth",):
+        return set()
+    is_bare = all(name == "eth" or headers[name].next for name in path)
+    return {name for name in headers if "eth" in headers[name].before} if is_bare else {path[-1]}
+
+
+def zeros(statements: list[Node]) -> Iterator[Noted]:
+    """Limits of hops that a push leaves at 0, where the program writes nothing else there."""
+    written = {(it.target.header, it.target.name) for it in statements if isinstance(it, (Assign, Mend)) and isinstance(it.target, Field)}
+    for part in (part for it in statements if isinstance(it, Push) for part in it.headers):
+        name = HOPS.get(part.header, "")
+        if name and name not in dict(part.values) and (part.header, name) not in written:
+            yield part.at, f"{part.header}.{name} is not named, and is 0: the next router drops such a packet; {name} = 64 is usual"
+
+
+def cleared(statements: list[Node], headers: Headers) -> Iterator[Noted]:
+    """Checksums that are set to 0 and updated, where the program writes nothing else there."""
+    changed = [it for it in statements if isinstance(it, (Assign, Mend)) and isinstance(it.target, Field)]
+    for it in changed:
+        header, values = headers[it.target.header], [other.value for other in changed if other.target == it.target]
+        covered = any(isinstance(other, Mend) and (other.target.header == header.name or other.target in header.over) for other in changed)
+        if it.target.name == header.sum and not header.optional and covered and all(value == Number(it.at, 0) for value in values):
+            yield it.at, f"`mend` updates {header.name}.{header.sum}, and calculates none from 0: a checksum that was right stays right without this line"
+
+
+def sent_nowhere(program: Program) -> Iterator[Noted]:
+    """A program that sends nothing, and does not say so by a `drop` at its end."""
+    statements = program.statements
+    if statements and goes_on(statements) and not has((statements, program.otherwise), Send):
+        yield statements[-1].at, "no packet is sent: all are dropped at the end of the text; send port sends them, and a `drop` there says that none is"
+
+
+def sent_to_a_field(statements: list[Node]) -> Iterator[Noted]:
+    """Packets that are sent to the port of TCP or UDP."""
+    lets = {it.name: it.value for it in statements if isinstance(it, Let)}
+    for it in statements:
+        port = lets.get(it.port.name, it.port) if isinstance(it, Send) and isinstance(it.port, Name) else it.port if isinstance(it, Send) else None
+        if isinstance(port, Field) and port.name in ("sport", "dport"):
+            yield it.at, f"{port.header}.{port.name} is the port of a program on a host, and `send` takes one of the pipeline: send port, or send 1"
 
 
 def in_front(statements: list[Node], headers: Headers) -> Iterator[Noted]:

@@ -45,7 +45,7 @@ STATEMENTS: dict[str, tuple[type[Node], str]] = {
 EACH = "if x == 1 { .. } else if x == 2 { .. } has a case for each number that matters"
 BRACED = "else { .. }"
 # The note on a difference that is compared.
-UNDER = "a difference is a great number where it would be below 0, as numbers are unsigned; x > 5 asks for what x - 5 > 0 seems to ask"
+UNDER = "a difference is a great number where it would be below 0, as numbers are unsigned; {} asks for what {} seems to ask"
 # The cures where the number of one of these is wanted.
 NUMBERED = {"table": "table ROUTES = 0, and let x = lookup ROUTES ipv4.dst", "pool": "pool CLONES = 1, and clone c from CLONES"}
 # The cure for a header of which not its first bits have the length, as that of TCP with its options.
@@ -242,7 +242,7 @@ class Parser(Lexer):
         self.given: set[str] = set()
         self.looked_up = ""
         self.notes, self.used, self.limits = dict[Place, str](), set[str](), dict[Node, int]()
-        self.clauses = list[tuple[str, Place]]()
+        self.clauses, self.ordered = list[tuple[str, Place]](), set[frozenset[Node]]()
         self.below: tuple[Place, str] | None = None
         self.begun = self.place()
 
@@ -253,6 +253,7 @@ class Parser(Lexer):
     def as_condition(self, node: Node) -> Node:
         """A condition of the text, which does not hold for every number, and asks something of the packet or is a switch."""
         require_open(node, self.headers)
+        self.note_group(node)
         if isinstance(node, Number) and self.names.get(node.at.word) != "a parameter":
             self.require_switch(node, node.value < 2, f"x == {node.at.word} compares x with it")
         return as_condition(node)
@@ -306,8 +307,19 @@ class Parser(Lexer):
             if sign == "in":
                 node = self.items(as_side(node))
             else:
-                node = (self.joined if level < NUMBERS else self.calculated)(sign, node, self.operation(level + 1))
+                at, right = self.place(), self.operation(level + 1)
+                self.note_order(sign, node, right, at)
+                node = (self.joined if level < NUMBERS else self.calculated)(sign, node, right)
         return node
+
+    def note_order(self, sign: str, left: Node, right: Node, at: Place) -> None:
+        """Notes `tcp or udp and c` without parentheses, which is `tcp or (udp and c)`."""
+        last, first = left.right if isinstance(left, Or) else left, right
+        while isinstance(first, And):
+            first = first.left
+        if sign == "or" and isinstance(right, And) and at.word != "(" and isinstance(last, Found) and isinstance(first, Found):
+            one, other = last.path[-1], first.path[-1]
+            self.notes[at] = f"`and` binds closer than `or`: this is {one} or ({other} and ..), and ({one} or {other}) and .. is the other"
 
     def calculated(self, sign: str, left: Node, right: Node) -> Node:
         """An operation of the text, of which something is left."""
@@ -341,6 +353,7 @@ class Parser(Lexer):
                 require_unsigned(sign, left, right)
             if sign not in ("==", "!="):
                 self.note_difference(left, right)
+            self.note_group(left)
             return self.compared(sign, left, right)
         for side in (left, right):
             # A constant with a name, of 0 or 1, may switch a part off.
@@ -359,13 +372,22 @@ class Parser(Lexer):
         return following[:-1] == ["and", *words] and following[-1] in ("<", "<=")
 
     def note_difference(self, left: Node, right: Node) -> None:
-        """Notes the order of a difference with a constant, unless it cannot be below 0 or the text has asked before how great the number is."""
+        """Notes the order of a difference, unless it cannot be below 0 or the text has asked before how great the number is."""
         for it, other in ((left, right), (right, left)):
             if isinstance(it, Binary) and it.sign == "-" and isinstance(it.right, Number):
                 asked = self.limits.get(it.left, -1) + 1 if isinstance(it.left, (Field, Name)) else 0
-                self.notes |= {it.at: UNDER} if max(asked, least_of(it.left, self.headers)) < it.right.value else {}
+                self.notes |= {it.at: UNDER.format("x > 5", "x - 5 > 0")} if max(asked, least_of(it.left, self.headers)) < it.right.value else {}
+            elif isinstance(it, Binary) and it.sign == "-" and all(isinstance(side, (Field, Name)) for side in (it.left, it.right)):
+                self.notes |= {} if frozenset((it.left, it.right)) in self.ordered else {it.at: UNDER.format("x > y + 5", "x - y > 5")}
             elif isinstance(other, Number) and isinstance(it, (Field, Name)):
                 self.limits[it] = max(other.value, self.limits.get(it, 0))
+        self.ordered.add(frozenset((left, right)))
+
+    def note_group(self, it: Node) -> None:
+        """Notes eth.dst & 1, which is not the bit of group addresses."""
+        match it:
+            case Binary(_, "&", Field(_, "eth", "dst"), Number(at, 1)) if at.word in ("1", "0x1", "0x01"):
+                self.notes[at] = "1 is the last bit of eth.dst; eth.dst & 01:00:00:00:00:00 asks for the bit of groups, the last one of its first byte"
 
     def items(self, left: Node) -> Node:
         """The items after `in`: a comparison for each."""
