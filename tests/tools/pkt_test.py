@@ -463,8 +463,6 @@ class Slips(unittest.TestCase):
          "if ipv4 {\n  if tcp { drop } else\n    ipv4.tos = 5\n}\nsend port"),
         ("if tcp { drop }\nelse\n  if udp { count a }\n  else\n  count b\nsend port", "5:3: this belongs to the `else` in line 4", "within braces",
          "if tcp { drop }\nelse\n  if udp { count a }\n  else\n    count b\nsend port"),
-        ("if tcp { drop } else\nif udp { count a }\nsend port", "2:1: this belongs to the `else` in line 1", "the line of `else`",
-         "if tcp { drop }\n   else\n   if udp { count a }\nneed ipv4\n   else\n   drop\nneed ipv4 and\n     udp else\n  drop\nsend port"),
         ("if tcp { drop } else\n  eth.src = 1\n    eth.dst = 2\nsend port", "3:5: this does not belong to the `else` in line 1", "else { .. }",
          "if tcp { drop }\n  else\n  eth.src = 1\neth.dst = 2\nsend port"),
         ("if tcp { drop } else\n    eth.src = 1\n    eth.dst = 2\nsend port", "3:5: this does not belong to the `else` in line 1", "else { .. }",
@@ -827,6 +825,7 @@ class Programs(unittest.TestCase):
     def test_else_in_the_line_before(self) -> None:
         """Layouts of `else` that say what the text means."""
         for source in ("need ipv4 else\n  drop", "need ipv4\nelse drop", "need ipv4 else # why\n\n    drop # so", "if ipv4 { drop } else\nif ipv6 { drop }",
+                       "if tcp { drop }\n   else\n   if udp { count a }", "need ipv4\n   else\n   drop", "need ipv4 and\n     udp else\n  drop",
                        "need ipv4 else\n{ drop }", "if tcp { drop } else\n    eth.src = 1\neth.dst = 2", "if ipv4 {\n  need tcp else\n    drop\n  ipv4.tos = 1\n}",
                        "def f() {\n  if tcp { drop } else\n    eth.src = 1\n}\nif ipv4 {\n    f()\n    eth.dst = 2\n}"):
             with self.subTest(source):

@@ -683,7 +683,7 @@ class Parser(Lexer):
         """An `else` part, which may be absent. The `if` after an `else`, and the one after its `else`, are read one after another."""
         found = list[tuple[Place, Node, Block]]()
         while self.sees("else") and self.place(1).word == "if":
-            self.refuse_left(self.take(), self.place())
+            self.take()
             at = self.begun = self.take()
             condition = self.condition()
             self.refuse_unknown()
