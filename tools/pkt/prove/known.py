@@ -171,8 +171,8 @@ class Model(Known):
         return it
 
     def near(self, c: Cond, others: list[Cond], tries: int) -> Model | None:
-        """A packet near this one that meets a condition and others; None if the search fails, which tries a word and then bytes by chance."""
-        made = (Model(self.z, self.leaves | leaves, self.answers) for leaves in chain(self.words(c), self.chances(c, tries)))
+        """A packet near this one that meets a condition and others; None if the search fails, which tries a word, what a constant asks for, and then bytes by chance."""
+        made = (Model(self.z, self.leaves | leaves, self.answers) for leaves in chain(self.words(c), self.fitting(c), self.chances(c, tries)))
         return next((it for it in made if it.holds(c) and all(map(it.holds, others))), None)
 
     def words(self, c: Cond) -> Iterator[dict[Atom, int]]:
@@ -187,6 +187,21 @@ class Model(Known):
                 if other == coef * 256 % 0xFFFF and upper is not lower:
                     word = (self.value(whole(upper)) << 8 | self.value(whole(lower))) + lack * pow(coef, -1, 0xFFFF)
                     yield from ({upper: it >> 8, lower: it & 255} for it in {word % 0xFFFF, word % 0xFFFF or 0xFFFF})
+
+    def fitting(self, c: Cond) -> Iterator[dict[Atom, int]]:
+        """Values of what is compared with a constant, with which a condition holds."""
+        kind, v, other = it if (it := c[1] if c[0] == "not" else c)[0] in ("eq", "lt") else ("", (), ())
+        k = known(other) if kind else None
+        if k is None or any(a is not None and a.kind not in LEAVES for a, _, _, _ in v):
+            return
+        want = {("eq", False): k, ("eq", True): k ^ 1, ("lt", False): max(k - 1, 0), ("lt", True): k}[kind, c[0] == "not"]
+        found = dict[Atom, int]()
+        for a, first, bits, is_inverted in v:
+            mask = (1 << bits) - 1
+            if a is not None:
+                found[a] = found.get(a, self.value(whole(a))) & ~(mask << first) | ((want ^ -is_inverted) & mask) << first
+            want >>= bits
+        yield found
 
     def chances(self, c: Cond, tries: int) -> Iterator[dict[Atom, int]]:
         """Other values of the bytes that a condition is about."""

@@ -53,7 +53,7 @@ class Explorer:
     def __init__(self, until: float) -> None:
         self.solver, self.until = z3.Solver(), until
         self.stack: list[Cond] = []
-        self.asked = self.paths = 0
+        self.asked = self.paths = self.limit = 0
 
     def query(self, conditions: list[Cond], more: Iterable[Cond]) -> Model | bool | None:
         """A packet that meets these conditions, None if there is none, False if z3 does not know. The first ones are kept for the next question."""
@@ -78,7 +78,11 @@ class Explorer:
         if left <= 0:
             raise TimeoutError
         self.asked += 1
-        solver.set("timeout", 1 + int(1000 * min(QUESTION, left)))
+        limit = min(QUESTION, 1 + int(left))
+        if solver is not self.solver or limit != self.limit:
+            # To set it takes as long as a short question.
+            solver.set("timeout", 1000 * limit)
+            self.limit = limit if solver is self.solver else self.limit
         solver.add(*map(of_cond, more))
         found = solver.check()
         return Model(solver.model()) if found == z3.sat else None if found == z3.unsat else False
@@ -209,8 +213,8 @@ class Path:
     def search(self, c: Cond) -> tuple[bool, list[Model]]:
         """Whether some packet of this path may meet a condition, and such packets. Conditions on folded sums are only tried: a path that no
         packet takes costs time alone."""
-        if is_heavy(c):
-            near = next(filter(None, (it.near(c, self.literals, 60) for it in self.models)), None)
+        near = next(filter(None, (it.near(c, self.literals, 60 if is_heavy(c) else 0) for it in self.models)), None)
+        if near or is_heavy(c):
             return True, [near] if near else []
         found = self.explorer.query([it for it in self.literals if it[0] != "is" and not is_heavy(it)], [c])
         if found is None:
