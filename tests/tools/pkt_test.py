@@ -1327,6 +1327,7 @@ class Reached(unittest.TestCase):
             "let p = tcp.dport\nports 4\nif ipv4 { send p }": "line 3: tcp.dport is the port of a program on a host",
             "need tcp.seq - tcp.ack > 1000": "line 1: a difference is a great number where it would be below 0, as numbers are unsigned; x > y + 5",
             "need ipv4 or tcp or udp and l4.dport == 53": "line 1: `and` binds closer than `or`: this is tcp or (udp and ..)",
+            "if ipv4.src == 5 { drop }\nwhile vlan { pop vlan }": "line 2: vlan is looked for after the rule in line 1, which tagged packets pass by",
             "if eth.dst & 1 == 1 { drop }": "line 1: 1 is the last bit of eth.dst; eth.dst & 01:00:00:00:00:00",
             "push mpls { ttl = 64 }": "line 1: mpls is put at the front of the packet, with no eth before it; cut 14 and push eth { .. } mpls { .. }",
             "push qinq { vid = 1 } vlan { vid = 2 }": "line 1: qinq is put before the Ethernet header, with the headers pushed with it; a tag that",
@@ -1346,7 +1347,9 @@ class Reached(unittest.TestCase):
                        "push mpls { ttl = 9 }\npush eth { }", "push mpls { bottom = 1 }\npush eth { type = 0x8847 }\nmpls.ttl = 64", "push vlan { vid = 2 }\npush qinq { vid = 1 }", "push mpls { ttl = 9 }\nif tcp { queue 0 }", pppoe,
                        "let n = ipv4.len\ncut 14\npush eth { } ipv4 { len = n ttl = 9 }\nneed ipv4", "if eth.type == 0x88b5 { cut 14 }\nneed eth.type == 5\npop eth\nneed ipv4",
                        "pop eth/ipv4/udp/vxlan\nneed ipv4.ttl > 5", "udp.sum = 0\nmend udp.dport = 5", "ipv4.sum = 0\nmend tcp.dport = 5", "need tcp or (udp and l4.dport == 5)",
-                       "need tcp.seq > tcp.ack\nneed tcp.seq - tcp.ack > 9", "need eth.src & 1", "need eth.dst & 01:00:00:00:00:00", "while vlan { pop vlan }",
+                       "need tcp.seq > tcp.ack\nneed tcp.seq - tcp.ack > 9", "if vlan {}\nif ipv4.src == 5 { drop }\nif vlan { pop vlan }",
+                       "if ipv4 { send port }\nif vlan.vid == 5 { drop }", "if eth.src == 5 { drop }\nif vlan { pop vlan }", "if ipv4.ttl < 2 { drop }\npush vlan { vid = 5 }",
+                       "need eth.src & 1", "need eth.dst & 01:00:00:00:00:00", "while vlan { pop vlan }",
                        f"{pppoe}\nif pppoe.session == 5 {{ drop }}\nneed ipv4", f"{pppoe}\nif pppoe {{}}\nmend ipv4.ttl -= 1",
                        "header h { a:8 } after ipv4 if ipv4.proto == 200 after ipv6 if ipv6.next == 200\nneed h",
                        "need ipv4.len >= 28\nneed ipv4.len - 28 < 512", "need ipv4.len > 40 and ipv4.len - 40 < 100"):

@@ -28,6 +28,7 @@ def notes_of(program: Program) -> list[str]:
     statements = list(parts(program.statements))
     found = [*program.notes.items(), *stale(statements, program.headers), *kept(statements), *in_front(statements, program.headers), *unasked(program)]
     found += [*taken_off(program), *zeros(statements), *cleared(statements, program.headers), *sent_nowhere(program), *sent_to_a_field(statements)]
+    found += tags_late(program)
     said = dict.fromkeys(f"{program.rows[at.line].place}: {OWN.sub('', text)}" for at, text in sorted(found, key=lambda it: it[0][:2]))
     return [*list(said)[:MAX_NOTES], *([f"{len(said) - MAX_NOTES} notes more"] if len(said) > MAX_NOTES else [])]
 
@@ -125,6 +126,27 @@ def cleared(statements: list[Node], headers: Headers) -> Iterator[Noted]:
         covered = any(isinstance(other, Mend) and (other.target.header == header.name or other.target in header.over) for other in changed)
         if it.target.name == header.sum and not header.optional and covered and all(value == Number(it.at, 0) for value in values):
             yield it.at, f"`mend` updates {header.name}.{header.sum}, and calculates none from 0: a checksum that was right stays right without this line"
+
+
+def tags_late(program: Program) -> Iterator[Noted]:
+    """A tag that is looked for first after a rule about a header that may be behind it: of a tagged packet the rule asked nothing."""
+    rule: Place | None = None
+    for it in program.statements:
+        asked = it.condition if isinstance(it, (If, While)) else it
+        used = [name for part in parts(asked) for name in headers_of(part, program.headers)]
+        tag = next((name for name in used if program.headers[name].next), "")
+        if tag and rule:
+            place = program.rows[rule.line].place
+            yield it.at, f"{tag} is looked for after the rule in {place}, which tagged packets pass by; `if {tag} {{}}` before the rule makes it one for them too"
+        if any(program.headers[name].next for part in parts(it) for name in headers_of(part, program.headers)):
+            return
+        if rule is None and isinstance(it, If) and has(it.condition, Compare) and any(is_behind_tags(name, program.headers) for name in used):
+            rule = it.at
+
+
+def is_behind_tags(name: str, headers: Headers) -> bool:
+    """Whether a header may follow a tag."""
+    return any(headers[other].next for other in headers[name].before)
 
 
 def sent_nowhere(program: Program) -> Iterator[Noted]:

@@ -171,7 +171,8 @@ class Model(Known):
         return it
 
     def near(self, c: Cond, others: list[Cond], tries: int) -> Model | None:
-        """A packet near this one that meets a condition and others; None if the search fails, which tries a word, what a constant asks for, and then bytes by chance."""
+        """A packet near this one that meets a condition and others; None if the search fails. It tries a word, what a constant asks for, and bytes by
+        chance."""
         made = (Model(self.z, self.leaves | leaves, self.answers) for leaves in chain(self.words(c), self.fitting(c), self.chances(c, tries)))
         return next((it for it in made if it.holds(c) and all(map(it.holds, others))), None)
 
