@@ -412,6 +412,7 @@ class Slips(unittest.TestCase):
         ("need ~ipv4.ttl == 0xfe\nsend port", "1:19: the number beside it is at least", "^ 0xff those of this number", "need ipv4.ttl ^ 0xff == 0xfe\nsend port"),
         ("if ~tcp.flags { drop }\nsend port", "1:5: this number is never 0", "x & 2 == 0 asks whether a bit is clear", "if tcp.flags & 2 == 0 { drop }\nsend port"),
         ("if tcp.flags | 2 { drop }\nsend port", "1:4: this number is never 0", "x & 2 asks for a bit", "if tcp.flags & 2 { drop }\nsend port"),
+        ("if tcp.flags & 2 | 16 { drop }\nsend port", "1:4: this number is never 0", "& binds closer than |", "if tcp.flags & (2 | 16) { drop }\nsend port"),
         ("if tcp.flags & 0x200 { drop }\nsend port", "1:16: tcp.flags has 8 bits, and 0x200 has none of them", "2 SYN", "if tcp.flags & 2 { drop }\nsend port"),
         ("if ipv4.flags & 0x2000 { drop }\nsend port", "1:17: ipv4.flags has 3 bits", "1 says that more fragments follow", "if ipv4.flags & 1 { drop }\nsend port"),
         ("need not 0x2000 & ipv4.frag\nsend port", "1:10: ipv4.frag has 13 bits", "need ipv4.pieces == 0", "need ipv4.pieces == 0\nsend port"),

@@ -142,5 +142,7 @@ def require_open(it: Node, headers: Headers) -> None:
     if isinstance(it, Binary):
         value = values_of(it, headers)
         is_inverted = it.sign == "^" and isinstance(it.right, Number) and it.right.value == BIGGEST
-        cure = "x & 2 == 0 asks whether a bit is clear, and not c is the contrary" if is_inverted else "x & 2 asks for a bit"
+        is_mask = it.sign == "|" and isinstance(it.left, Binary) and it.left.sign == "&"
+        cure = "& binds closer than |: x & (2 | 16) asks for one of several bits" if is_mask else "x & 2 asks for a bit"
+        cure = "x & 2 == 0 asks whether a bit is clear, and not c is the contrary" if is_inverted else cure
         require(value.can_be(0), it.at, "this number is never 0, so the condition always holds", cure)
