@@ -1329,6 +1329,7 @@ class Reached(unittest.TestCase):
             "need tcp.seq - tcp.ack > 1000": "line 1: a difference is a great number where it would be below 0, as numbers are unsigned; x > y + 5",
             "need ipv4 or tcp or udp and l4.dport == 53": "line 1: `and` binds closer than `or`: this is tcp or (udp and ..)",
             "if ipv4.src == 5 { drop }\nwhile vlan { pop vlan }": "line 2: vlan is looked for after the rule in line 1, which tagged packets pass by",
+            "if ipv4 and ipv4.proto == 6 { mend tcp.dport = 80 }": "line 1: a later fragment has no tcp, and is dropped here; if tcp { .. } in place",
             "if eth.dst & 1 == 1 { drop }": "line 1: 1 is the last bit of eth.dst; eth.dst & 01:00:00:00:00:00",
             "push mpls { ttl = 64 }": "line 1: mpls is put at the front of the packet, with no eth before it; cut 14 and push eth { .. } mpls { .. }",
             "push qinq { vid = 1 } vlan { vid = 2 }": "line 1: qinq is put before the Ethernet header, with the headers pushed with it; a tag that",
@@ -1350,7 +1351,8 @@ class Reached(unittest.TestCase):
                        "pop eth/ipv4/udp/vxlan\nneed ipv4.ttl > 5", "udp.sum = 0\nmend udp.dport = 5", "ipv4.sum = 0\nmend tcp.dport = 5", "need tcp or (udp and l4.dport == 5)",
                        "need tcp.seq > tcp.ack\nneed tcp.seq - tcp.ack > 9", "if vlan {}\nif ipv4.src == 5 { drop }\nif vlan { pop vlan }",
                        "if ipv4 { send port }\nif vlan.vid == 5 { drop }", "if eth.src == 5 { drop }\nif vlan { pop vlan }", "if ipv4.ttl < 2 { drop }\npush vlan { vid = 5 }",
-                       "need eth.src & 1", "need eth.dst & 01:00:00:00:00:00", "while vlan { pop vlan }",
+                       "if ipv4.proto == 6 { mend ipv4.src = 5 }", "if ipv4.proto == 6 and tcp { mend tcp.dport = 5 }", "otherwise send 0\nif ipv4.proto == 6 { mend tcp.dport = 5 }",
+                       "if ipv4.proto == 6 and ipv4.frag == 0 { mend tcp.dport = 5 }", "need eth.src & 1", "need eth.dst & 01:00:00:00:00:00", "while vlan { pop vlan }",
                        f"{pppoe}\nif pppoe.session == 5 {{ drop }}\nneed ipv4", f"{pppoe}\nif pppoe {{}}\nmend ipv4.ttl -= 1",
                        "header h { a:8 } after ipv4 if ipv4.proto == 200 after ipv6 if ipv6.next == 200\nneed h",
                        "need ipv4.len >= 28\nneed ipv4.len - 28 < 512", "need ipv4.len > 40 and ipv4.len - 40 < 100"):

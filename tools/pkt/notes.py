@@ -14,6 +14,7 @@ MAX_NOTES = 10
 Noted = tuple[Place, str]
 # The fields with how many hops a packet goes on.
 HOPS = {"ipv4": "ttl", "ipv6": "hops", "mpls": "ttl"}
+NAMES, PROTO = {1: "icmp", 6: "tcp", 17: "udp", 47: "gre"}, Field(Place(0, 0, ""), "ipv4", "proto")
 TYPE = Field(Place(0, 0, ""), "eth", "type")
 # The notes on a header at the front of a packet: the header, the packet, and the header that should come before.
 FRONT = {
@@ -28,7 +29,7 @@ def notes_of(program: Program) -> list[str]:
     statements = list(parts(program.statements))
     found = [*program.notes.items(), *stale(statements, program.headers), *kept(statements), *in_front(statements, program.headers), *unasked(program)]
     found += [*taken_off(program), *zeros(statements), *cleared(statements, program.headers), *sent_nowhere(program), *sent_to_a_field(statements)]
-    found += tags_late(program)
+    found += [*tags_late(program), *without_pieces(program, statements)]
     said = dict.fromkeys(f"{program.rows[at.line].place}: {OWN.sub('', text)}" for at, text in sorted(found, key=lambda it: it[0][:2]))
     return [*list(said)[:MAX_NOTES], *([f"{len(said) - MAX_NOTES} notes more"] if len(said) > MAX_NOTES else [])]
 
@@ -137,7 +138,8 @@ def tags_late(program: Program) -> Iterator[Noted]:
         tag = next((name for name in used if program.headers[name].next), "")
         if tag and rule:
             place = program.rows[rule.line].place
-            yield it.at, f"{tag} is looked for after the rule in {place}, which tagged packets pass by; `if {tag} {{}}` before the rule makes it one for them too"
+            said = f"{tag} is looked for after the rule in {place}, which tagged packets pass by"
+            yield it.at, f"{said}; `if {tag} {{}}` before the rule makes it one for them too"
         if any(program.headers[name].next for part in parts(it) for name in headers_of(part, program.headers)):
             return
         if rule is None and isinstance(it, If) and has(it.condition, Compare) and any(is_behind_tags(name, program.headers) for name in used):
@@ -147,6 +149,21 @@ def tags_late(program: Program) -> Iterator[Noted]:
 def is_behind_tags(name: str, headers: Headers) -> bool:
     """Whether a header may follow a tag."""
     return any(headers[other].next for other in headers[name].before)
+
+
+def without_pieces(program: Program, statements: list[Node]) -> Iterator[Noted]:
+    """Statements that need TCP and so on after a test of the protocol alone, which later fragments pass and are dropped. A program that asks for
+    fragments, or says what happens otherwise, knows of them."""
+    knows = program.otherwise or any(isinstance(it, Field) and it.header == "ipv4" and it.name in ("frag", "pieces", "flags") for it in statements)
+    for it in () if knows else statements:
+        if isinstance(it, If) and it.body and not isinstance(it.body[0], (If, Need, While)):
+            asked = {part.right.value for part in parts(it.condition) if isinstance(part, Compare) and part.left == PROTO and isinstance(part.right, Number)}
+            named = {name for part in parts(it.condition) for name in headers_of(part, program.headers)}
+            used = {part.header for part in parts(it.body[0]) if isinstance(part, Field)} - named
+            name = min(used & {NAMES[value] for value in asked & NAMES.keys()}, default="")
+            if name:
+                said = f"a later fragment has no {name}, and is dropped here"
+                yield it.body[0].at, f"{said}; if {name} {{ .. }} in place of the test of the protocol passes it by"
 
 
 def sent_nowhere(program: Program) -> Iterator[Noted]:
