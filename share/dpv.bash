@@ -37,7 +37,7 @@ _dpv() {
     local word="${COMP_WORDS[COMP_CWORD]}" command first= count=0 place begin=1
     local commands="filter one check compile infer infer-one explain explain-one show show-one run trace trace-one mem help" more=" build install package library --unproved --compiled"
     if ((COMP_CWORD > 1)) && [ "${COMP_WORDS[1]}" = --unproved ]; then
-        begin=2 more=
+        begin=2 more=" build"
     fi
     if ((COMP_CWORD > 1)) && [ "${COMP_WORDS[1]}" = --compiled ]; then
         begin=2 more= commands=run
@@ -67,10 +67,14 @@ _dpv() {
             mapfile -t COMPREPLY < <(compgen -W "0 1 2 3 4 5 6 7" -- "$word")
             return
             ;;
+        "trace --only" | "trace-one --only")
+            mapfile -t COMPREPLY < <(compgen -W "sent freed refused cut" -- "$word")
+            return
+            ;;
     esac
     for ((place = begin + 1; place < COMP_CWORD; place++)); do
         case "${COMP_WORDS[place]}" in
-            --in | --out | --no-in | --no-out | --routes | --refuse | --records | --port | --only | --instr | --match | --room | --segs | --name | =) place=$((place + 1)) ;;
+            --in | --out | --no-in | --no-out | --routes | --refuse | --records | --port | --only | --instr | --match | --room | --segs | --name | --rounds | --seconds | =) place=$((place + 1)) ;;
             --counts) [ "$command" != show ] || place=$((place + 1)) ;;
             -*) ;;
             *)
@@ -89,7 +93,8 @@ _dpv() {
         explain\ -* | explain-one\ -*) mapfile -t COMPREPLY < <(compgen -W "--json --help" -- "$word") ;;
         show\ -*) mapfile -t COMPREPLY < <(compgen -W "--dot --calls --counts --help" -- "$word") ;;
         show-one\ -*) mapfile -t COMPREPLY < <(compgen -W "--dot --calls --help" -- "$word") ;;
-        help\ *) mapfile -t COMPREPLY < <(compgen -W "$commands" -- "$word") ;;
+        build\ -*) mapfile -t COMPREPLY < <(compgen -W "--prove --rounds --seconds --help" -- "$word") ;;
+        help\ *) mapfile -t COMPREPLY < <(compgen -W "$commands build" -- "$word") ;;
         *\ -*) mapfile -t COMPREPLY < <(compgen -W "--help" -- "$word") ;;
         *) mapfile -t COMPREPLY < <(_dpv_operands "$command" "$count" "$first" "$word") ;;
     esac
