@@ -99,7 +99,7 @@ class Lexer:
             # A colon right before a word is one of an address.
             is_in_address = place.word == ":" and is_right_after(place, self.place(1))
             cure = cure or cure_of(place.word, RESERVED, "" if is_in_address else wanted, self.kind)
-            raise SourceError(place, f"{wanted!r} is wanted here, and this is {place.word!r}", cure)
+            raise SourceError(place, f"{wanted!r} is expected here, and this is {place.word!r}", cure)
         self.next = min(self.next + 1, len(self.words) - 1)
         return place
 
@@ -149,14 +149,14 @@ class Lexer:
         at = self.place()
         is_name, is_now = self.kind == "name" and (at.word not in RESERVED or may_be_reserved), "a reserved word" if at.word in RESERVED else "none"
         cure = cure or ("take another name" if at.word in RESERVED else cure_of(at.word) or "a name begins with a letter")
-        require(is_name, at, f"the name of {what} is wanted here, and {at.word!r} is {is_now}", cure)
+        require(is_name, at, f"the name of {what} is expected here, and {at.word!r} is {is_now}", cure)
         return self.take()
 
     def header_name(self) -> Place:
         """The name of a header."""
         at = self.place()
         if self.kind != "name" or at.word not in self.headers:
-            raise SourceError(at, f"a header is wanted here, and {at.word!r} is none", self.known_headers(at.word))
+            raise SourceError(at, f"a header is expected here, and {at.word!r} is none", self.known_headers(at.word))
         return self.take()
 
     def known_headers(self, word: str) -> str:

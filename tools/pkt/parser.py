@@ -120,7 +120,7 @@ def as_side(node: Node) -> Node:
     cure = "`and`, `or` and `not` join conditions, as in 1 < x and x < 5; `if` decides by them"
     if isinstance(node, Found):
         cure = f"{node.path[-1]} alone asks whether the header is there; its fields are numbers"
-    require(isinstance(node, Numeric), node.at, "a condition is where a number is wanted", cure)
+    require(isinstance(node, Numeric), node.at, "a condition is where a number is expected", cure)
     return node
 
 
@@ -158,7 +158,7 @@ def compared(sign: str, left: Node, right: Node) -> Node:
 def as_wide(node: Node) -> Wide:
     """A node that must be an IPv6 address."""
     if not isinstance(node, Wide):
-        raise SourceError(node.at, "an IPv6 address is wanted here", "as ipv6.src, 2001:db8::1 or ::")
+        raise SourceError(node.at, "an IPv6 address is expected here", "as ipv6.src, 2001:db8::1 or ::")
     return node
 
 
@@ -211,7 +211,7 @@ def constant_of(node: Node, cure: str = "") -> int:
     """The value of a number that must be constant."""
     if not isinstance(node, Number):
         cure = cure or (f"const {node.at.word} = .. makes one" if isinstance(node, Name) and node.at.word != PORT else EACH)
-        raise SourceError(node.at, f"a constant is wanted here, and {node.at.word!r} is none", cure)
+        raise SourceError(node.at, f"a constant is expected here, and {node.at.word!r} is none", cure)
     return node.value
 
 
@@ -277,14 +277,14 @@ class Parser(Lexer):
         """A constant within limits, or the name of what it numbers."""
         if self.kind == "name" and self.place().word in self.numbered:
             kind, number = self.numbered[self.place().word]
-            require(kind == what, self.place(), f"{self.place().word} is a {kind}, and a {what} is wanted here")
+            require(kind == what, self.place(), f"{self.place().word} is a {kind}, and a {what} is expected here")
             self.take()
             return number
         is_known = what not in ("table", "pool", "ring") or self.kind != "name" or self.place().word in {*self.names, *RESERVED}
         require(is_known, self.place(), f"there is no {what} {self.place().word}", f"{what} {self.place().word} = 0, before it, names one")
         cure = f"leave the {self.place().word} out" if self.sees("=", ":") else "write its number, as 0 for the first one; the pipeline file says what is in it"
         is_number = self.kind != "string" and not self.sees("=", ":", "{")
-        require(is_number, self.place(), f"the {what} is wanted here, and this is {self.place().word!r}", cure)
+        require(is_number, self.place(), f"the {what} is expected here, and this is {self.place().word!r}", cure)
         at, value, limit = self.place(), constant_of(self.number(), NUMBERED.get(what, "")), limit or LIMITS[what]
         require(least <= value <= limit, at, f"the {what} is from {least} to {limit:,}, and this is {value:,}")
         return value
@@ -512,9 +512,9 @@ class Parser(Lexer):
                 return node
         if self.may("length"):
             return Length(at)
-        require(not self.sees("-"), at, "a number or a condition is wanted here, and this is '-'", "numbers are unsigned: 0 - 1 is 2^64 - 1")
-        require(self.kind != "end", at, f"a number or a condition is wanted here, and this is {at.word!r}", "what is before it is not whole")
-        require_word(self.kind == "name", at, f"a number or a condition is wanted here, and this is {at.word!r}", self.kind)
+        require(not self.sees("-"), at, "a number or a condition is expected here, and this is '-'", "numbers are unsigned: 0 - 1 is 2^64 - 1")
+        require(self.kind != "end", at, f"a number or a condition is expected here, and this is {at.word!r}", "what is before it is not whole")
+        require_word(self.kind == "name", at, f"a number or a condition is expected here, and this is {at.word!r}", self.kind)
         return self.named(at)
 
     def named(self, at: Place) -> Node:
@@ -529,7 +529,7 @@ class Parser(Lexer):
         require(is_number, at, f"{at.word} is {self.names.get(at.word)}, and no number", NO_NUMBERS.get(self.names.get(at.word, ""), "").format(at.word))
         cure = CURES.get(at.word) or f"a number or a condition is missing before `{at.word}`"
         cure = "need c else drop" if at.word in ("drop", "send", "else") and self.words[self.next - 1][1].word in ("and", "or") else cure
-        require(at.word not in RESERVED - {PORT}, at, f"a number or a condition is wanted here, and this is {at.word!r}", cure)
+        require(at.word not in RESERVED - {PORT}, at, f"a number or a condition is expected here, and this is {at.word!r}", cure)
         if self.names.get(at.word) != "a variable":
             self.unknown.append(at)
         return Name(self.take(), at.word if at.word == PORT else at.word + self.suffix)
@@ -730,7 +730,7 @@ class Parser(Lexer):
         """The comma between two items of a list, or the end of it, which is not taken."""
         if not self.sees(end):
             self.take(",", f"a comma is between two of them, and {end} after the last one")
-            require(not self.sees(end), self.place(), f"one more is wanted here, and this is {end!r}", "leave the comma before it out")
+            require(not self.sees(end), self.place(), f"one more is expected here, and this is {end!r}", "leave the comma before it out")
 
     def call(self, at: Place) -> Inline:
         """The statements of a `def`, with numbers for its parameters: constants, and variables of their own for all others."""
@@ -800,7 +800,7 @@ class Parser(Lexer):
         self.take("=", "a field is assigned without let: ipv4.ttl = 64" if self.sees(".") else typed)
         if self.may("lookup"):
             is_call = self.sees("(") and self.place(2).word == ","
-            require(not is_call, self.place(), "the table is wanted here, and this is '('", LOOKUP)
+            require(not is_call, self.place(), "the table is expected here, and this is '('", LOOKUP)
             self.looked_up, outside = name, self.looked_up
             found = Lookup(at, name, *self.slots("table key fallback"))
             self.looked_up = outside
@@ -862,7 +862,7 @@ class Parser(Lexer):
         if before.word == "drop" and before.line == first.line and first.word not in CURES:
             return 'a reason is within double quotes: drop "why"'
         near = meant(first.word, [*STATEMENTS, *DECLARATIONS, *self.functions, *self.names, "mend", "count"], 2)
-        other = f"statements begin with {', '.join(STATEMENTS)}, mend, or are assignments"
+        other = f"statements begin with {', '.join(STATEMENTS)}, mend, count, or are assignments"
         by_sign = {":": f"write {first.word} = ..", "(": f"def {first.word}() {{ .. }}, before it, gives a block this name"}
         declared = f"as in {WORDS[first.word]}" if first.word in WORDS else ""
         return cure_of(first.word, RESERVED) or declared or f"{f'did you mean {near}? ' if near else ''}{by_sign.get(self.place().word, other)}"
@@ -881,7 +881,7 @@ class Parser(Lexer):
         is_name = self.kind == "name" and first.word not in RESERVED - {PORT}
         cure = "mend ipv4.ttl = 64" if mends else NO_STATEMENTS.get(first.word, "a declaration is outside of all blocks")
         require(first.word not in NO_STATEMENTS and not self.declares(), first, fault, cure)
-        require_word(is_name, first, f"a field is wanted here, and {first.word!r} is none" if mends else fault, self.kind)
+        require_word(is_name, first, f"a field is expected here, and {first.word!r} is none" if mends else fault, self.kind)
         target = self.operand()
         is_assigned = not isinstance(target, Name) or self.sees(*ASSIGNMENTS, "-", "+")
         require(is_assigned, first, fault, self.cure_of_statement(first))
@@ -896,7 +896,7 @@ class Parser(Lexer):
         sign = self.place()
         cure = f"{'mend ' if mends else ''}{f'{target.header}.{target.name}' if isinstance(target, Field) else first.word} = 1"
         cure = CURES[sign.word] if sign.word in ("+", "-", "set") else cure
-        require(sign.word in ASSIGNMENTS, sign, f"an assignment is wanted here, and this is {sign.word!r}", cure)
+        require(sign.word in ASSIGNMENTS, sign, f"an assignment is expected here, and this is {sign.word!r}", cure)
         self.take()
         value = self.number()
         require(target != Name(at, PORT), at, "port is where the packet came from, and is not assigned to", "let x = port")
@@ -960,7 +960,7 @@ class Parser(Lexer):
         at = self.name("a set")
         self.declare(at, at.word, "a set")
         self.take("=", f"set {at.word} = {{80, 443}}")
-        require(self.sees("{"), self.place(), f"'{{' is wanted here, and this is {self.place().word!r}", "set WEB = {80, 443}")
+        require(self.sees("{"), self.place(), f"'{{' is expected here, and this is {self.place().word!r}", "set WEB = {80, 443}")
         self.sets[at.word] = self.listed()
         for item in self.sets[at.word]:
             number = item.number.high if isinstance(item.number, Wide) else item.number
@@ -985,7 +985,7 @@ class Parser(Lexer):
 
     def declare_include(self, _: Program) -> None:
         at = self.place()
-        require(self.kind == "string", at, f"a file in quotes is wanted here, and this is {at.word!r}", 'include "net.pkt"')
+        require(self.kind == "string", at, f"a file in quotes is expected here, and this is {at.word!r}", 'include "net.pkt"')
         self.take()
         folder = self.rows[at.line].path.parent if self.rows[at.line].path else self.folder  # type: ignore[union-attr]
         if folder is None:
@@ -1020,7 +1020,7 @@ class Parser(Lexer):
         self.declare(at, at.word, "a constant")
         is_typed = self.sees("<") or self.kind == "name" and self.place().line == at.line
         self.take("=", f"a constant has no type: const {self.place().word if self.kind == 'name' else 'A'} = 1" if is_typed else f"const {at.word} = 1")
-        require(not self.sees("{"), self.place(), "a number is wanted here, and this is '{'", f"set {at.word} = {{1, 2}} names a list")
+        require(not self.sees("{"), self.place(), "a number is expected here, and this is '{'", f"set {at.word} = {{1, 2}} names a list")
         value = self.operation(NUMBERS)
         require(not self.sees("/", ".."), self.place(), "a prefix or a range is no number", f"set {at.word} = {{10.0.0.0/8, 80..90}}, and x in {at.word}")
         if not isinstance(value, Wide) or not isinstance(value.high, Number):

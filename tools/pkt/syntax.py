@@ -10,6 +10,13 @@ THIS, PORT = "this", "port"
 # What the names in a `def` end with, each time that it is used: a sign that no text has, and a number.
 PRIME = "\u2032"
 OWN = re.compile(PRIME + "[0-9]+")
+# What a message says of the word after the last one, and what it says instead.
+AT_END = re.compile("and (?:this is )?'the end of the text'(?: is none)?|no (statement) begins with 'the end of the text'")
+
+
+def at_end(found: re.Match[str]) -> str:
+    """The words for a text that ends too early."""
+    return f"{'a statement is expected here, ' if found[1] else ''}and the text ends here"
 
 
 class Place(NamedTuple):
@@ -38,7 +45,7 @@ class SourceError(Exception):
 
     def __init__(self, at: Place, message: str, cure: str = "", row: Row | None = None) -> None:
         super().__init__(message)
-        self.at, self.message, self.cure, self.row = at, OWN.sub("", message), cure, row
+        self.at, self.message, self.cure, self.row = at, AT_END.sub(at_end, OWN.sub("", message)), cure, row
 
 
 class NoRegister(SourceError):
