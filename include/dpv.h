@@ -260,7 +260,8 @@ static inline void dpv_batch_close(struct dpv_batch *batch)
 }
 
 /* Passes in a frame that a port received at a time, in the caller's unit, and fills the batch with all frames that the pipeline sends
-   for it. DPV_RECEIVED, DPV_NO_BUFFER or DPV_OVERSIZE; or the reason for a refusal, and then the batch is empty. */
+   for it. DPV_RECEIVED, DPV_NO_BUFFER or DPV_OVERSIZE; or the reason for a refusal, and then the batch is empty: DPV_NOT_OPEN, DPV_CLOSED,
+   DPV_NO_PORT, DPV_TOO_LONG, DPV_NO_TURNS or DPV_BATCH_TOO_SMALL. */
 static inline uint32_t dpv_pass(dpv_t *engine, uint32_t port, const uint8_t *frame, size_t length, uint64_t time, struct dpv_batch *batch)
 {
     return dpv_pass_into(engine, port, time, frame, length, batch->records, (size_t)batch->room.records, batch->bytes,
