@@ -4,8 +4,8 @@
 Usage: tests/program/launched.py [PROGRAM]   (the built program; by default the one that ./dpv builds and runs; some seconds)
 The output may be no file that the compiler reads, under whichever name; the words after -- are operands; a name that the words give is
 kept; wrong words and files that cannot be read are answered as without the launcher; a program that wants more than one port and one pool
-is an error with its place; and no temporary file is left, also if a signal ends the run. Prints each case that failed, and a count; exits
-with 1 if one did.
+is an error with its place; without the toolchain ./dpv says so, and builds nothing; and no temporary file is left, even if a signal ends the
+run. Prints each case that failed, and a count; exits with 1 if one did.
 """
 import os
 import pathlib
@@ -128,6 +128,20 @@ class Launched:
         return run.returncode in (-signal.SIGTERM, 128 + signal.SIGTERM) and not list(self.temporary.iterdir())
 
 
+def lacks_toolchain(folder: pathlib.Path) -> bool:
+    """Whether ./dpv, without a command rt, says in one line that it cannot build."""
+    tools = folder / "tools"
+    tools.mkdir()
+    for name in ("sh", "env", "python3", "dirname", "readlink", "cat", "git"):
+        (tools / name).symlink_to(shutil.which(name) or "/bin/false")
+    for words in (["--unproved", "check", "x.toml"], ["library", str(folder / "installed")]):
+        run = subprocess.run([str(TOP / "dpv"), *words], env={"PATH": str(tools)}, capture_output=True, text=True, timeout=60)
+        said = run.stderr.splitlines()
+        if (run.returncode, run.stdout, len(said)) != (70, "", 1) or "rt is not on the PATH" not in said[0]:
+            return False
+    return not (folder / "installed").exists()
+
+
 def main() -> int:
     """All cases."""
     with new_folder() as folder:
@@ -142,6 +156,7 @@ def main() -> int:
             status, _, err = tried.run(*words)
             cases[" ".join(words)] = status == wanted and text in err
         cases["ended at once"], cases["ended later"] = tried.ends(0.05), tried.ends(3)
+        cases["no toolchain"] = lacks_toolchain(folder)
         cases["nothing is left"] = not list(tried.temporary.iterdir())
     for name, is_right in cases.items():
         if not is_right:
