@@ -241,7 +241,7 @@ class Errors(unittest.TestCase):
             "need 70000 > udp.sport": "x.pkt:1:6: udp.sport has 16 bits",
             "push vlan { vid = 4096 }": "x.pkt:1:19: vlan.vid has 12 bits",
             "header h { a:8 = 256 }": "x.pkt:1:18: a has 8 bits, and 256 needs more",
-            "const A = 1 - 2": "x.pkt:1:11: A is not from 0 to 2^64 - 1, and would be cut to 64 bits",
+            "const A = 1 - 2": "x.pkt:1:11: the calculation of A leaves 0 to 2^64 - 1, and would be cut to 64 bits",
             "given headroom 64\ngiven headroom 32": "x.pkt:2:7: `given` has headroom already",
             "given eth\ngiven eth/ipv4": "x.pkt:2:7: `given` has a path already",
             "push tcp { sum = auto }": "x.pkt:1:6: tcp.sum covers more than the header, and `auto` is of the header alone",

@@ -1026,7 +1026,7 @@ class Parser(Lexer):
         if not isinstance(value, Wide) or not isinstance(value.high, Number):
             constant_of(as_number(value), f"let {at.word} = .. has a number that the packet gives")
         is_whole = not isinstance(value, Number) or not value.wraps
-        require(is_whole, value.at, f"{at.word} is not from 0 to 2^64 - 1, and would be cut to 64 bits", "~0 has all 64 bits")
+        require(is_whole, value.at, f"the calculation of {at.word} leaves 0 to 2^64 - 1, and would be cut to 64 bits", "~0 has all 64 bits")
         self.constants[at.word] = replace(value, is_masked=False) if isinstance(value, Number) else value  # type: ignore[assignment]
 
     def declare_otherwise(self, program: Program) -> None:
