@@ -804,6 +804,31 @@ class Programs(unittest.TestCase):
         no_sum = next(k for k in range(65536) if udp(k, 53)[40:42] == b"\xff\xff")
         self.assertEqual(sent("mend udp.sport = %d\nsend port" % no_sum, udp(5, 53))[0], [udp(no_sum, 53)])
 
+    def test_mends_in_a_row_update_a_checksum_once(self) -> None:
+        rows = {
+            "mend ipv4.src = 198.51.100.1\nmend ipv4.dst = ipv4.src ^ 5\nmend ipv4.src += 1": True, "mend udp.sport = udp.dport\nmend udp.dport = 9": True,
+            "mend ipv4.ttl -= 1\nmend ipv4.dscp = 10\nmend ipv4.id = 0": True, "mend mine.a = 0\nmend mine.b = 0xffff\nmend mine.a -= 1": True,
+            "mend udp.sport = 7\nmend udp.dport = udp.sum": False, "mend ipv4.ttl = 9\nmend ipv4.src = 1.2.3.4": False,
+            "mend own.a = 3\nmend own.both = 5": False, "mend ipv4.src = 1.2.3.4\nmend ipv4.dst = 10.0.0.9": True, "mend ipv4.tos = 1\nmend ipv4.id = udp.sum": False,
+            "mend early.a = 5\nmend early.b = 6": True, "mend early.a = 5\nmend early.kind = 6": False,
+        }
+        heads = """header mine { a:16 b:16 } after udp if udp.dport == 53
+            header own { a:16 sum:16 both@0:32 } after udp if udp.dport == 53 sum sum
+            header early { kind:16 a:16 b:16 } after eth if eth.type == 0x88b5
+            header late { x:16 sum:16 } after early if early.kind == 5 sum sum over early.kind early.a early.b
+            """
+        zero = next(k for k in range(65536) if udp(k, 53, bytes(4))[40:42] == b"\xff\xff")
+        frames = [udp(5, 53, b"abcdef"), udp(5, 53, b"abcdef", options=bytes(4)), udp(5, 53, bytes(4), summed=False), udp(zero, 53, bytes(4)), tcp(2, 80),
+                  udp(5, 53, b"\xff\xff\0\0")[:40] + b"\xff\xff\xff\xff\xff\xff", eth(bytes.fromhex("0005000100020003fff4"), 0x88B5), six(17, bytes(12))]
+        for text, is_once in rows.items():
+            with self.subTest(text):
+                together, apart = (f"{heads}otherwise send port\n{text.replace(chr(10), it)}\nsend port" for it in ("\n", "\ncount here\n"))
+                self.assertEqual(sent(together, *frames), sent(apart, *frames))
+                self.assertEqual(count(together) < count(apart) - text.count("\n") * 5, is_once)
+        held = "".join(f"let {it} = ipv4.{field}\n" for it, field in zip("abcd", ("tos", "id", "ttl", "proto")))
+        text = f"{held}mend udp.sport = udp.dport\nmend udp.dport = (a ^ b) + ((c & d) ^ (a | b))\nipv4.id = a + b + c + d\nsend 0"
+        self.assertEqual(sent(text, frames[0]), sent(text.replace("\nmend udp.dport", "\ncount here\nmend udp.dport"), frames[0]))
+
     def test_bits_are_taken_out_by_a_constant_that_is_wider_than_the_field(self) -> None:
         self.assertEqual(sent("const SYN = 2\ntcp.flags &= ~SYN\nsend port", tcp(0x12, 80))[0], [tcp(0x10, 80)])
         here, there = (eth(ipv4(1, bytes(8))[:6] + it + ipv4(1, bytes(8))[8:]) for it in (b"\x40\5", b"\0\5"))

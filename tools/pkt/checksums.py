@@ -29,13 +29,16 @@ def do_mend(way: Way, it: Mend, after: Join[Way], _: Join[Way]) -> None:
     for name in names:
         require_even(way, name, own.name)
     assign_field(way, it.target, registers.evaluate(way, it.value))
+    is_nested = len(names) > 1 or own.payload and {*over} - {own.name}
+    if not is_nested and id(it) in way.unit.joined:
+        return way.jump(after)
     difference, sites = Value(register=way.variables[DIFFERENCE]), len(names) + len(over) * (2 if own.bits else 1)
     if sites > 4:
         reduce(way, difference)
     elif sites > 1:
         fold(way, difference)
     needs, way = after.needs | way.unit.needs_of(it), way
-    if len(names) > 1 or own.payload and {*over} - {own.name}:
+    if is_nested:
         return cover_nested(way, own.name, names, over, needs, after)
     for name in names:
         (way,) = paths(lambda updated: update_sum(way, name, updated, [DIFFERENCE]))
@@ -138,6 +141,9 @@ def assign_field(way: Way, target: Field, value: Value) -> None:
         registers.store(way, span, new)
     else:
         registers.release(way, new)
+    if DIFFERENCE in way.variables:
+        # The statement before this one left its own: both are one sum.
+        registers.apply(way, total, "+", Value(register=way.variables.pop(DIFFERENCE)))
     way.variables[DIFFERENCE] = total.r
 
 

@@ -1,6 +1,7 @@
 """Lowering of statements: assignments, branches, loops, and packets that are made or sent."""
 from __future__ import annotations
 
+import contextlib
 import operator
 from collections import Counter
 from collections.abc import Callable
@@ -26,11 +27,12 @@ ANEW = "delete it; a variable begins anew with each packet, and nothing is kept 
 
 
 def compile_program(program: Program) -> Graph:
-    """The instructions of a program. Only where eight registers are too few, the values of pushed headers are calculated in turn."""
-    try:
-        return compile_unit(program, Unit(program))
-    except NoRegister:
-        return compile_unit(program, Unit(program, is_in_turn=True))
+    """The instructions of a program. Only where eight registers are too few, checksums are updated one by one, and then also the values of pushed
+    headers are calculated in turn."""
+    for is_together in (True, False):
+        with contextlib.suppress(NoRegister):
+            return compile_unit(program, Unit(program, is_together))
+    return compile_unit(program, Unit(program, is_together=False, is_in_turn=True))
 
 
 def compile_unit(program: Program, unit: Unit) -> Graph:

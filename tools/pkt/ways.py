@@ -20,11 +20,11 @@ TOO_MUCH = "`need` what most packets have, or find it out once for all; a prefix
 
 class Unit:
     """What all paths of a program share: facts `needs` after the current statement, statements `reached`, headers `near` that need a constant place,
-    and whether the values of pushed headers are calculated in turn."""
+    whether `mend` statements in a row update checksums together, and whether the values of pushed headers are calculated in turn."""
 
-    def __init__(self, program: Program, is_in_turn: bool = False) -> None:
+    def __init__(self, program: Program, is_together: bool = True, is_in_turn: bool = False) -> None:
         self.program, self.headers, self.needs, self.blocks, self.reached = program, program.headers, NOTHING, 0, set[int]()
-        self.is_in_turn = is_in_turn
+        self.is_together, self.is_in_turn = is_together, is_in_turn
         self.known: dict[int, tuple[Any, Needs]] = {}
         self.known_from: dict[int, tuple[Any, list[Needs]]] = {}
         self.appended = 0
@@ -118,9 +118,7 @@ class Unit:
         what this one finds."""
         if self.changes_searches(name):
             return False
-        before = self.headers[name].before
-        asked = {part for other in before for part in parts(tuple(self.headers[other].follows.values())) if isinstance(part, Field)}
-        spans = {(it.header, self.headers[it.header].fields[it.name]) for it in asked} | {(it, Span(0, self.headers[it].bits)) for it in before}
+        before, spans = self.headers[name].before, self.asked_for(name)
         all_known = all(self.headers[other].is_known for other in before)
         for it in self.written:
             other = self.headers[it.header]
@@ -128,6 +126,31 @@ class Unit:
             if not is_behind and (it.header not in before or any(it.header == header and other.fields[it.name].meets(span) for header, span in spans)):
                 return False
         return True
+
+    def asked_for(self, name: str) -> set[tuple[str, Span]]:
+        """The bits, each with its header, on which it depends whether and where a header is found."""
+        before = self.headers[name].before
+        asked = {part for other in before for part in parts(tuple(self.headers[other].follows.values())) if isinstance(part, Field)}
+        return {(it.header, self.headers[it.header].fields[it.name]) for it in asked} | {(it, Span(0, self.headers[it].bits)) for it in before}
+
+    @cached_property
+    def joined(self) -> set[int]:
+        """The `mend` statements, by identity, of which the next statement can update the checksums too."""
+        blocks = [self.program.statements, *(it for part in parts(self.program.statements) for it in children(part) if isinstance(it, tuple))]
+        pairs = [pair for block in blocks for pair in zip(block, block[1:])] if self.is_together else []
+        return {id(one) for one, other in pairs if isinstance(one, Mend) and isinstance(other, Mend) and self.is_joined(one, other)}
+
+    def is_joined(self, one: Mend, other: Mend) -> bool:
+        """Whether two assignments are of one header and change the same checksums, which lie behind it if they are in other headers; the second one
+        reads nothing else, and changes nothing that decides where those are."""
+        own, over = self.headers[one.target.header], self.headers.covering(one.target)
+        fields = [one.target, other.target, *(part for part in parts(other.value) if isinstance(part, Field))]
+        is_behind = all(it == own.name or self.headers[it].is_known or [*self.headers[it].follows] == [own.name] for it in over)
+        if not is_behind or any(it.header != own.name for it in fields) or self.headers.covering(other.target) != over:
+            return False
+        spans, target = [own.fields[it.name] for it in fields], own.fields[other.target.name]
+        asked = [span for name in over for header, span in self.asked_for(name) if header == own.name]
+        return not any(target.meets(it) for it in asked) and not (own.sum and any(own.fields[own.sum].meets(it) for it in spans))
 
     def headers_of(self, it: Node) -> Iterable[str]:
         """The headers that a node itself uses."""
