@@ -898,6 +898,16 @@ class Programs(unittest.TestCase):
             given, wanted = (frame[:14] + (it % 2**64).to_bytes(8, "big") + frame[22:] for it in (value, step(value)))
             self.assertEqual(sent(f"{fields}let s = mine.value\ns = {text}\nmine.value = s\nsend 0", given)[0], [wanted], text)
 
+    def test_products_with_constants(self) -> None:
+        rng, text = random.Random(4), "header mine { value:64 short:16 } after eth if eth.type == 0x88b5\n"
+        for factor in (0x9E3779B1, 0x9E3779B97F4A7C15, 2**64 - 1, 2**63 - 1, 0xFFFF, 0xFF << 56, 1 << 63, 15, *(rng.getrandbits(64) for _ in range(8))):
+            value, short = rng.getrandbits(64), rng.getrandbits(16)
+            here, there = (eth(struct.pack(">QH", it, short), 0x88B5) for it in (value, (value * factor ^ short * factor) % 2**64))
+            source = f"{text}mine.value = mine.value * {factor} ^ mine.short * {factor}\nsend port"
+            self.assertEqual(sent(source, here)[0], [there], hex(factor))
+        # 19 bits of this one are 1, and the differences of 11 powers of 2 make it.
+        self.assertLess(count("let h = ipv4.src * 0x9e3779b1\nipv4.dst = h\nsend port"), 40)
+
     def test_mend_of_64_bits(self) -> None:
         head = struct.pack(">IHBB", 0x60000000, 8, 17, 64)
         ends = [bytes.fromhex("20010db8000000000000000000000001"), bytes.fromhex("20010db8000000010000000000000002")]

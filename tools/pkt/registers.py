@@ -301,24 +301,36 @@ def apply(way: Way, left: Value, sign: str, value: Value) -> None:
     way.bounds[left.r] = min(bounds[sign], BIGGEST)
 
 
+def summands(factor: int) -> list[tuple[int, str]]:
+    """The powers of 2 that a factor is the sum of, by their exponents, the greatest one first, each with its sign. Where that makes at least four fewer,
+    a run of bits that are 1 is the next bit less the lowest of them; then the greatest value of the product is not known."""
+    plain, signed, left, k = [(k, "+") for k in reversed(range(64)) if factor >> k & 1], list[tuple[int, str]](), factor, 0
+    while left:
+        sign = 0 if left % 2 == 0 else -1 if left % 4 == 3 else 1
+        signed += [(k, "+" if sign > 0 else "-")] if sign else []
+        left, k = (left - sign) >> 1, k + 1
+    return signed[::-1] if len(signed) + 4 <= len(plain) and k <= 64 else plain
+
+
 def multiply(way: Way, left: Value, factor: int) -> Value:
     """A product with a constant, by shifts."""
-    shifts = [k for k in reversed(range(64)) if factor >> k & 1]
-    if not shifts:
+    powers = summands(factor)
+    if not powers:
         release(way, left)
         return Value(0)
-    if len(shifts) == 1:
+    if len(powers) == 1:
         total = own(way, left)
-        apply(way, total, "<<", Value(shifts[0]))
+        apply(way, total, "<<", Value(powers[0][0]))
         return total
     bound, total = bound_of(way, left), fresh(way)
     copy_to(way, total, left)
-    for shift, lower in zip(shifts, [*shifts[1:], 0]):
-        if shift != shifts[0]:
-            apply(way, total, "+", left)
+    for (shift, sign), (lower, _) in zip(powers, [*powers[1:], (0, "")]):
+        if shift != powers[0][0]:
+            apply(way, total, sign, left)
         apply(way, total, "<<", Value(shift - lower))
     release(way, left)
-    way.bounds[total.r] = min(bound * factor, BIGGEST)
+    is_sum = all(sign == "+" for _, sign in powers)
+    way.bounds[total.r] = min(bound * factor, BIGGEST) if is_sum else BIGGEST
     return total
 
 
