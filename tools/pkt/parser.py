@@ -238,6 +238,7 @@ class Parser(Lexer):
         self.suffix, self.inlined, self.active = "", 0, list[str]()
         self.constants: dict[str, Number | Wide] = {}
         self.unknown: list[Place] = []
+        self.ended: set[str] = set()
         self.depth = self.statements = self.operators = 0
         self.given: set[str] = set()
         self.looked_up = ""
@@ -597,6 +598,8 @@ class Parser(Lexer):
                 cure = CURES[":"]
             elif cure.startswith("let ") and left.word in ("send", "to"):
                 cure = f"port {at.word} = 0, before it, names a port; {cure}"
+            if at.word in self.ended and not self.active and at.word != self.looked_up:
+                cure = f"{at.word} ended with its block: let {at.word} = 0 before that block, and {at.word} = .. in it"
             if self.active and cure.startswith("let "):
                 cure = f"a `def` sees no variables from outside: a parameter may have it; {cure}"
             raise SourceError(at, f"{at.word} is no variable here", cure)
@@ -642,6 +645,7 @@ class Parser(Lexer):
                 while not self.may("}"):
                     found += self.statement(tuple(found[-2:]))
             self.below = None
+        self.ended |= {word for word, what in self.names.items() if what == "a variable" and word not in outside}
         self.names = outside
         return tuple(found)
 
@@ -1004,7 +1008,10 @@ class Parser(Lexer):
         at = self.header_name()
         self.take("after")
         other = self.header_name()
-        is_free = at.word not in self.headers[other.word].before and self.headers[at.word].follows
+        header = self.headers[at.word]
+        cure = f"write the first clause where it is declared: header {at.word} {{ .. }} after {other.word} if .."
+        require(bool(header.follows) or header.is_known, at, f"{at.word} follows no header, so it is at byte 0", cure)
+        is_free = at.word not in self.headers[other.word].before and header.follows
         require(is_free, other, f"{at.word} cannot follow {other.word}, which it comes before", "declare a header with another name for the inner one")
         require(other.word not in self.headers[at.word].follows, other, f"{at.word} follows {other.word} already",
                 f"a header of your own may follow {other.word} too, with another name")
