@@ -42,7 +42,6 @@ impl Model for EngineMemory {
 
 // Lays out the memory of an engine in a region that is large enough. The spare zone, which is taken first, is as long as the last pool's queue; it is
 // given back when that pool is made, so the bytes that are left always suffice.
-#[tactic(auto, using(std::proofs::lemmas::Grind::common_steps))]
 fn lay_out(region: Region, env: &Env) -> (EngineMemory, Parts)
     requires lent { region.lent ≡ [] }
     requires room { bytes_needed env.now ≤ length region.bytes }

@@ -2,6 +2,7 @@
 use Rattle.std.proofs.Common.{◌≡◌, ℕ, ◌+◌, ◌-◌, ◌*◌, ◌≤◌, List, length, map, take, get_or, sym, ap, subst, ◌∙◌, arith}
 use Rattle.std.specs.List.{AllByRecursion}
 use Rattle.std.proofs.lemmas.List.{length-take-le}
+use Rattle.std.proofs.lemmas.Grind.{common_steps}
 use Rattle.dp_ring.specs.Rings.{IsCount}
 use Rattle.dp_model.specs.declared.env.PoolSpec.{PoolSpec}
 use Rattle.dp_model.specs.declared.env.PortSpec.{PortSpec}
@@ -240,3 +241,24 @@ returns c =
     (rings_of c.over-builder.result.home c.args.region.home c.as_slice.result.now (list_counts e) c.take_rings-lists.result home1 lists
     c.take_rings-lists.ensures.rings)
     (omega (arith, counted, n1, n2, n3, n4, firsts, many_lists, many_rings, number, all))
+
+pub power_above-requires : goal.power_above-requires
+power_above-requires c = grind (arith, common_steps)
+
+pub overflow_mul-power_above : goal.overflow_mul-power_above
+overflow_mul-power_above c = grind (arith, common_steps)
+
+pub bounds-specs-last-2 : goal.bounds-specs-last-2
+bounds-specs-last-2 c = grind (arith, common_steps)
+
+pub finish-heap-requires-clause-spare : goal.finish-heap-requires-clause-spare
+finish-heap-requires-clause-spare c = grind (arith, common_steps)
+
+pub finish-heap-requires-clause-names : goal.finish-heap-requires-clause-names
+finish-heap-requires-clause-names c = grind (arith, common_steps)
+
+pub finish-heap-requires-clause-some : goal.finish-heap-requires-clause-some
+finish-heap-requires-clause-some c = grind (arith, common_steps)
+
+pub finish-heap-requires-clause-few : goal.finish-heap-requires-clause-few
+finish-heap-requires-clause-few c = grind (arith, common_steps)
