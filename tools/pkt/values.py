@@ -124,7 +124,7 @@ def cure_of_never(left: Node, right: Number, value: Value, headers: Headers) -> 
             return f"~ inverts all 64 bits, and ^ {most:#x} those of this number" if most < BIGGEST else f"~{right.at.word} is the constant"
         case Binary(_, "&", Field(_, header, name), Number(_, mask)):
             bits, depth = headers[header].fields[name].bits, mask.bit_count()
-            if mask == ((1 << depth) - 1) << bits - depth and right.value >> bits == 0:
+            if depth <= bits and mask == ((1 << depth) - 1) << bits - depth and right.value >> bits == 0:
                 return f"{header}.{name} in {address(right.value & mask, bits)}/{depth} compares its first {depth} bits"
     bits = f", and have no bits but {value.bits | ~value.mask & BIGGEST:#x}" if value.mask else ""
     return f"its values are from {value.low:,} to {value.high:,}{bits}"
