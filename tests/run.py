@@ -85,6 +85,7 @@ STEPS = (
     Step("program", "tests/program/launched.py", "`dpv filter` with programs of the language, which the launcher compiles: that no output is a file that the compiler reads, and that nothing is left of a run, also if a signal ends it", ON_PROGRAM),
     Step("program", "tests/program/mistakes.py", "60 one-letter mistakes in the examples: each message names the file and the line, and 50 of them the word", ON_PROGRAM),
     Step("program", "tests/program/messages.py", "the lines after a fault or a refused certificate, and those of `--progress`", ON_PROGRAM),
+    Step("program", "tests/program/helps.py", "what is said to help with each kind of mistake in programs and each key of pipeline files, and of packets that a run lost, in notes, places, documents and traces", ON_PROGRAM, seconds=30),
     Step("program", "tests/program/cures.py", "that each command of editcap that a message names makes a capture of Ethernet frames with the same packets; skipped without editcap", ON_PROGRAM),
     Step("program", "tests/program/scripts.py", "heap scripts: what they print, and each kind of line that is no command", ON_PROGRAM),
     Step("program", "tests/program/causes.py", "each cause for which a pipeline is refused, at each place, with each of its numbers", ON_PROGRAM, seconds=27),

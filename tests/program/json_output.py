@@ -480,6 +480,10 @@ def summaries(program: str, folder: pathlib.Path) -> list[tuple[str, bool]]:
         for pattern, wanted in (("10.0.0.2", [3, 4, 5, 6, 7]), ("0a000002@30", [3, 4, 5]), ("0800@16", [6])):
             made = run(program, folder, *words, "--match", pattern, "--json").out.splitlines()
             cases.append((f"{words} --match {pattern}", [json.loads(line).get("record") for line in made[:-1]] == wanted))
+    (folder / "frames.pcap").write_bytes(capture(12 * [frames[3]]))
+    for more, count in ([], 10), (["--instr", "1"], 12), (["--match", "10.0.0.2"], 12), (["--only", "sent"], 12), (["--only", "sent", "--records", "11"], 11):
+        made = run(program, folder, "trace-one", "pass.dpv", "pass.cert", "frames.pcap", "--json", *more).out.splitlines()
+        cases.append((f"{count} records are traced with {more}", [json.loads(line).get("record") for line in made[:-1]] == [*range(1, count + 1)]))
     return cases
 
 

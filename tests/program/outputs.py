@@ -6,14 +6,17 @@ First, outputs that are another file of the run, by the same name, another path,
 certificate, an input, another port's output, also one that does not exist yet. Each has to be refused with both names, and no file may
 change. Then outputs to which standard output or standard error goes, and two outputs that are one new file by a link. Then each cause for
 which a run ends before its first header is written, with old outputs, which must not change, and with new ones, which must not be left empty.
-Then runs that do write: an old output has only the new capture, devices and pipes may be written by several ports. Prints a line for each
+Old outputs that are empty stay, too, and a file that came under the name of a new output. Then runs that do write: an old output has only
+the new capture, devices and pipes may be written by several ports; and the content of one that cannot be cut off stays. Prints a line for each
 case that failed, and a count; exits with 1 if a case failed.
 """
+import fcntl
 import os
 import pathlib
 import struct
 import subprocess
 import sys
+import time
 from typing import NamedTuple
 
 import paths  # noqa: F401
@@ -115,13 +118,14 @@ def make_files(folder: pathlib.Path, program: str) -> None:
         "short.pcap": ONE[:23],
         "old.pcap": OLD,
         "second.old": OLD,
+        "void.pcap": b"",
     }
     for name, held in data.items():
         (folder / name).write_bytes(held)
     certificate = subprocess.run([program, "infer-one", "forward.dpv"], cwd=folder, capture_output=True, check=True)
     (folder / "forward.cert").write_bytes(certificate.stdout)
     os.link(folder / "in.pcap", folder / "hard.pcap")
-    for link, name in {"soft.pcap": "in.pcap", "soft.dpv": "forward.dpv", "soft_old.pcap": "old.pcap", "dangling.pcap": "folder/made.pcap"}.items():
+    for link, name in {"soft.pcap": "in.pcap", "soft.dpv": "forward.dpv", "soft_old.pcap": "old.pcap", "soft_void.pcap": "void.pcap", "dangling.pcap": "folder/made.pcap"}.items():
         (folder / link).symlink_to(name)
 
 
@@ -141,6 +145,15 @@ def new_ends() -> list[Case]:
                 text = text.replace(old, new)
             cases.append(Case(text, case.said))
     return cases
+
+
+def empty_ends() -> list[Case]:
+    """Runs that end before their first header is written, with an old output that is empty."""
+    return [
+        Case(pipeline([("short.pcap", "void.pcap")]), "fault: input 0 cause 6"),
+        Case(pipeline([("short.pcap", "soft_void.pcap")]), "fault: input 0 cause 6"),
+        Case(pipeline([("in.pcap", "void.pcap"), ("in.pcap", "none/none")]), "fault: file none/none"),
+    ]
 
 
 def is_kept(program: str, case: Case, folder: pathlib.Path, must_be_alone: bool) -> bool:
@@ -221,6 +234,42 @@ def linked(program: str, folder: pathlib.Path) -> list[bool]:
     return answers
 
 
+def replaced(program: str, folder: pathlib.Path) -> bool:
+    """A new output is replaced by another empty file before the run ends without a header: the other file stays."""
+    output, other = folder / "fresh.pcap", folder / "other.pcap"
+    other.write_bytes(b"")
+    number = other.stat().st_ino
+    words = [program, "one", "forward.dpv", "forward.cert", "-", output.name]
+    with subprocess.Popen(words, cwd=folder, stdin=subprocess.PIPE, stdout=subprocess.PIPE, stderr=subprocess.PIPE, text=True) as run:
+        end = time.monotonic() + 60
+        while not output.exists() and time.monotonic() < end:
+            time.sleep(0.01)
+        other.replace(output)
+        _printed, reported = run.communicate(timeout=60)
+    passed = run.returncode == 3 and reported.startswith("fault: input 0 cause 6\n") and output.exists() and output.stat().st_ino == number
+    if not passed:
+        print(f"outputs: replaced: status {run.returncode}, {reported!r}, it is there: {output.exists()}")
+    output.unlink(missing_ok=True)
+    return passed
+
+
+def sealed(program: str, folder: pathlib.Path) -> bool:
+    """An old output whose content cannot be cut off: the fault says so, and the content stays."""
+    file = os.memfd_create("sealed", os.MFD_ALLOW_SEALING)
+    os.write(file, OLD)
+    fcntl.fcntl(file, fcntl.F_ADD_SEALS, fcntl.F_SEAL_SHRINK)
+    name = f"/proc/self/fd/{file}"
+    words = [program, "one", "forward.dpv", "forward.cert", "in.pcap", name]
+    run = subprocess.run(words, cwd=folder, pass_fds=[file], capture_output=True, text=True, timeout=60)
+    said = f"fault: output 0\n  file: {name}\n  because: Operation not permitted (os error 1)\n"
+    now = os.pread(file, 2 * len(OLD), 0)
+    os.close(file)
+    passed = (run.returncode, run.stderr, now) == (3, said, OLD)
+    if not passed:
+        print(f"outputs: sealed: status {run.returncode}, {run.stderr!r}, {len(now)} bytes: {now[:100]!r}")
+    return passed
+
+
 def writes(program: str, folder: pathlib.Path) -> list[bool]:
     """Runs that write: an old output then has only the new capture; several ports write devices and pipes."""
     answers = []
@@ -242,7 +291,8 @@ def main() -> int:
         passed = [is_kept(program, case, folder, True) for case in clashes()]
         passed += [is_unshared(program, case, folder) for case in shared()]
         passed += linked(program, folder)
-        passed += [is_kept(program, case, folder, False) for case in (*early_ends(), *new_ends())]
+        passed += [is_kept(program, case, folder, False) for case in (*early_ends(), *new_ends(), *empty_ends())]
+        passed += [replaced(program, folder), sealed(program, folder)]
         passed += writes(program, folder)
     return report_cases("outputs", passed)
 

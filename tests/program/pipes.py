@@ -178,8 +178,11 @@ def stripped(tried: Tried) -> tuple[bytes, bytes]:
 def to_stdout(tried: Tried) -> bool:
     """The capture alone is on standard output, and the report on standard error."""
     capture, report = stripped(tried)
-    run = tried.run(*ONE, "in.pcap", "-")
-    return came("to -", (run.returncode, run.stdout, run.stderr), (0, capture, report))
+    document = tried.run(*ONE, "in.pcap", "plain.pcap", "--json").stdout
+    totals = b"progress: port 0: 8 records read in all\n"
+    runs = [tried.run(*ONE, "in.pcap", "-", *more) for more in ([], ["--progress"], ["--progress", "--json"])]
+    got = [(run.returncode, run.stdout, run.stderr) for run in runs]
+    return came("to -", got, [(0, capture, said) for said in (report, totals + report, totals + document)])
 
 
 def from_stdin(tried: Tried) -> bool:
