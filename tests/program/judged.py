@@ -28,6 +28,10 @@ LABELLED = (
 # Rows of another program of as many instructions as STRIP has, and a program that loses its packet.
 OTHER, LOST = (SOLE, SOLE, SHORTER, NONE, SOLE, NONE), "exit\n" * 6
 
+# A program that appends to a packet whose last segment is shared, and one that reads at an index of this width.
+TAIL = "clone p1,p0,0,d\nalloc p2,0,e\nappend p2,14\nchain p2,p1\niftail p2,4,f\nappend p2,4\nf: free p2\nfree p0\nexit\ne: free p1\nd: free p0\nexit\n"
+AT_INDEX = "iflen p0,14,d\nload r2,p0,0,WIDTH\nloadx r1,p0,r2,0,1\nd: free p0\nexit\n"
+
 
 class Case(NamedTuple):
     """A command on node.dpv, with node.cert if there are rows: its status, and what it prints and reports."""
@@ -71,6 +75,28 @@ EXPLAINED = (
     Case("explain-one", "iflen p0,14,short\nadj p0,14\ntx p0,r0,out\nexit\nout: free p0\nexit\nshort:  exit\n", (), 1, explained(
         "not inferred at 6 by J10", "7: short:  exit", "J10: at exit no register holds a packet",
         "p0 sole, headroom 128, at most 1 segment", "p0 empty", "free p0 before it")),
+    Case("explain-one", "lookup r2,0,r1,d\nd: free p0\nexit\n", (), 1, explained(
+        "not inferred at 0 by J3", "1: lookup r2,0,r1,d", "J3: the pool, the table, the ring and each label exist",
+        "the number of tables is 0", "a table with the number 0, from 0", "declare one more in the pipeline, or name another")),
+    Case("explain-one", "enq p0,0,d\nexit\nd: free p0\nexit\n", (), 1, explained(
+        "not inferred at 0 by J3", "1: enq p0,0,d", "J3: the pool, the table, the ring and each label exist",
+        "the number of rings is 0", "a ring with the number 0, from 0", "declare one more in the pipeline, or name another")),
+    Case("explain-one", "chain p0,p0\nfree p0\nexit\n", (), 1, explained(
+        "not inferred at 0 by J5", "1: chain p0,p0", "J5: the target of alloc and clone is empty, and those of chain differ",
+        "both are p0", "two registers", "clone the packet, and chain the clone")),
+    Case("explain-one", "iflen p0,14,d\nclone p1,p0,0,d\ntx p0,r0,e\nstore p1,0,1,r1\nfree p1\nexit\ne: free p1\nd: free p0\nexit\n", (), 1, explained(
+        "not inferred at 3 by J7", "4: store p1,0,1,r1", "J7: what it writes is not shared",
+        "p1 loose, headroom 128, first 14, at most 1 segment", "p1 sole or head sole", "write before clone, or into a packet of its own from alloc")),
+    Case("explain-one", TAIL, (), 1, explained(
+        "not inferred at 5 by J7", "6: append p2,4", "J7: what it writes is not shared",
+        "p2 head sole, headroom 128, tailroom 4, first 14, at most 2 segments", "p2 sole", "append before chain")),
+    Case("explain-one", AT_INDEX.replace("WIDTH", "8"), (), 1, explained(
+        "not inferred at 2 by J6", "3: loadx r1,p0,r2,0,1", "J6: the packet has the bytes or the room that the instruction needs",
+        "p0 first 14", f"p0 first {2**64 - 1} + 1", f"bound the index before it by jlt or and: it can be {2**64 - 1}")),
+    Case("explain-one", AT_INDEX.replace("WIDTH", "1"), (), 1, explained(
+        "not inferred at 2 by J6", "3: loadx r1,p0,r2,0,1", "J6: the packet has the bytes or the room that the instruction needs",
+        "p0 first 14", "p0 first 255 + 1",
+        "bound the index before it by jlt or and: it can be 255; iflen p0,256,L would do, too, but sends each shorter packet to L")),
     Case("explain-one", PASS, (SOLE, NONE, ONE_BYTE, NONE), 1, explained(
         "refused at 0 by J11", "1: tx p0,r0,d", "J11: the facts after the instruction satisfy the row of each successor",
         "p0 sole, headroom 128, at most 1 segment", "at 2, d: p0 sole, headroom 128, first 1, at most 1 segment",
@@ -266,6 +292,10 @@ def cost_cases(program: str, folder: pathlib.Path) -> list[bool]:
         text, first = costs(ports, rings)
         (folder / "cost.toml").write_text(text)
         passed.append(is_said(program, folder, ["check", "cost.toml", "--cost"], 0, first + said, ""))
+    sizes = subprocess.run([program, "check", "cost.toml", "--sizes"], cwd=folder, capture_output=True, text=True, timeout=60).stdout
+    accepted = "".join(line for line in first.splitlines(keepends=True) if line.endswith(" accepted\n"))
+    both = first + said + sizes.removeprefix(accepted)
+    passed.append(sizes.startswith(accepted) and is_said(program, folder, ["check", "cost.toml", "--sizes", "--cost"], 0, both, ""))
     (folder / "lost.dpv").write_text(LOST)
     (folder / "cost.toml").write_text(costs(["strip.dpv"], [])[0].replace("strip", "lost"))
     help_line = "  help: dpv explain cost.toml port0 explains why\n"

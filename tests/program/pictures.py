@@ -204,7 +204,7 @@ def is_red(program: str, number: int) -> bool:
 
 
 def faults(folder: pathlib.Path) -> list[tuple[list[str], int, str]]:
-    """Words that cannot be drawn, the status, and the beginning of what is reported."""
+    """Words that cannot be drawn, the status, and what is reported."""
     texts = {
         "none.json": None,
         "cut.json": '{"counts": {"nodes": [',
@@ -212,6 +212,10 @@ def faults(folder: pathlib.Path) -> list[tuple[list[str], int, str]]:
         "list.json": '{"counts": {"nodes": 3}}',
         "node.json": '{"counts": {"nodes": [{"node": "port 1", "instructions": []}]}}',
         "short.json": '{"counts": {"nodes": [{"node": "port 0", "instructions": [{"label": 0, "ran": 1, "taken": null}]}]}}',
+        "name.json": '{"counts": {"nodes": [{"node": "port 1"}, {"node": 0, "instructions": []}]}}',
+        "steps.json": '{"counts": {"nodes": [{"node": "port 0", "instructions": {}}]}}',
+        "label.json": '{"counts": {"nodes": [{"node": "ring 0"}, {"node": "port 0", "instructions": [{"label": 0, "ran": "1", "taken": "0"}, {"label": 0}]}]}}',
+        "null.json": '{"counts": {"nodes": [{"node": "port 0", "instructions": [{"label": 0, "ran": 1}]}]}}',
         "ran.json": '{"counts": {"nodes": [{"node": "port 0", "instructions": [{"label": 0, "ran": -1, "taken": null}]}]}}',
         "taken.json": '{"counts": {"nodes": [{"node": "port 0", "instructions": [{"label": 0, "ran": 1, "taken": 2}]}]}}',
     }
@@ -219,33 +223,44 @@ def faults(folder: pathlib.Path) -> list[tuple[list[str], int, str]]:
         if text is not None:
             (folder / name).write_text(text)
     (folder / "latin.json").write_bytes(b'{"a": "\xff"}')
+    number, give = "a number, or its digits as a text", "give the document that dpv run FILE --counts --json prints"
     because = {
-        "none.json": "No such file or directory",
-        "cut.json": "line 1 column ",
+        "cut.json": f"line 1 column {len(str(texts['cut.json']))}: the text is not JSON",
         "latin.json": "it is not UTF-8",
         "other.json": "counts is not an object",
         "list.json": "counts.nodes is not a list",
+        "name.json": "counts.nodes[1].node is not a text",
+        "steps.json": "counts.nodes[0].instructions is not a list",
         "node.json": "it has no counts of port 0",
-        "short.json": "it has counts of 1 instructions for port 0, whose program has 7",
-        "ran.json": "counts.nodes[0].instructions[0].ran is not a number",
+        "label.json": "counts.nodes[1].instructions[1].label is not the number of the instruction, from 0",
+        "ran.json": f"counts.nodes[0].instructions[0].ran is not {number}",
+        "null.json": "counts.nodes[0].instructions[0].taken is not a number, its digits as a text, or null",
         "taken.json": "counts.nodes[0].instructions[0].taken is not at most ran",
     }
     show = ["show", "ttl.toml"]
     count = len(instructions_in((EXAMPLES / "ttl" / "ttl.dpv").read_text()))
-    cases = [([*show, "port0", "--dot", "--counts", str(folder / name)], 3, f"fault: file {folder / name}\n  because: {text}") for name, text in because.items()]
-    cases = [(words, status, text.replace("whose program has 7", f"whose program has {count}")) for words, status, text in cases]
+    said = {name: f"{text}\n  help: {give}\n" for name, text in because.items()}
+    said["none.json"] = "No such file or directory (os error 2)\n"
+    again = "count again with the program as it is now: dpv run FILE --counts --json"
+    said["short.json"] = f"it has counts of 1 instructions for port 0, whose program has {count}\n  help: {again}\n"
+    cases = [([*show, "port0", "--dot", "--counts", str(folder / name)], 3, f"fault: file {folder / name}\n  because: {text}") for name, text in said.items()]
     return [
         *cases,
-        (show, 2, "error: WHICH is missing"),
-        ([*show, "--dot", "--counts", "none.json"], 2, "error: --counts is for the picture of one program"),
-        ([*show, "port0", "--counts", "none.json"], 2, "error: --counts is for a picture"),
+        (show, 2, "error: WHICH is missing, the node to be shown, such as port0; or --dot, for a picture of the whole pipeline\n"),
+        ([*show, "--dot", "--counts", "none.json"], 2, "error: --counts is for the picture of one program: WHICH is missing, such as port0\n"),
+        ([*show, "port0", "--counts", "none.json"], 2, "error: --counts is for a picture: add --dot, or leave it out\n"),
+        ([*show, "port0", "--calls"], 2, "error: --calls is for a picture: add --dot, or leave it out\n"),
+        (["show-one", "ttl.dpv", "--calls"], 2, "error: --calls is for a picture: add --dot, or leave it out\n"),
+        (["show", "ttl.dpv"], 2, "error: ttl.dpv is a program, and no pipeline file: dpv show-one ttl.dpv prints it\n"),
+        (["check", "ttl.toml", "--json", "--sizes"], 2, "error: --sizes is printed as text alone: leave out --json, or --sizes\n"),
+        ([*show, "port10"], 2, "error: 'port10' names no node: port or ring, and one digit\n"),
     ]
 
 
 def is_refused(program: str, words: list[str], status: int, reported: str) -> bool:
     """Whether these words end with this status and report."""
     found = run(program, words, EXAMPLES / "ttl")
-    passed = found[0] == status and found[1] == "" and found[2].startswith(reported)
+    passed = found == (status, "", reported)
     if not passed:
         print(f"dpv {' '.join(words)}: status {found[0]}, reported {found[2]!r}")
     return passed
