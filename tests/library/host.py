@@ -5,7 +5,7 @@ Usage: tests/library/host.py [--seed N] [--cases N | --seconds N] [--jobs N] [--
 FOLDER has libdpv.a and dpv.h, as `./dpv library FOLDER` installs them; by default they are built into a new folder. With --gate the library
 is built over the crates as `rt ci` left them, which proves its own crate once more. tests/library/wrong_callers.c runs under the C compiler's
 sanitizers, and under valgrind if installed: each call returns what dpv.h says and changes nothing, packed files that are cut at each byte
-open no engine, and all memory is freed. bench/live/threads.c runs four engines on four threads, with ThreadSanitizer and under valgrind's
+open no engine, and all memory is freed; also where malloc refuses memory, and for an engine whose pipeline was not loaded. bench/live/threads.c runs four engines on four threads, with ThreadSanitizer and under valgrind's
 helgrind: they share nothing, and do the same. The hosts have to compile without a warning, and if DPDK is installed, dpdk.c over its net_pcap has
 to send for each example the records expected of `dpv run`. Then, for random pipelines, frames in any order of ports, bursts, changes of routes
 and look-ups, all that the library returns and all its counts are compared with tests/model. Prints a line for each finding, and a count; exits with 1 if there is a

@@ -1,6 +1,21 @@
 /* wrong_callers PIPELINE NODE..: makes calls that nobody should make, and compares what each answers; for tests/library/host.py.
    PIPELINE has one pool, two ports, no ring and no table, and each of NODE is a file that it names. */
+#include <stdlib.h>
+
+/* How many more times the inline functions of dpv.h get memory; always, if it is below 0. */
+static int granted = -1;
+
+static void *limited(size_t size)
+{
+    if (granted == 0)
+        return NULL;
+    granted -= granted > 0;
+    return malloc(size);
+}
+
+#define malloc limited
 #include "dpv.h"
+#undef malloc
 #include <stdio.h>
 
 static int wrong;
@@ -83,6 +98,87 @@ static void call_late(dpv_t *engine, struct dpv_batch *batch)
     expect(dpv_close(engine, &totals), DPV_CLOSED, "close after close");
 }
 
+/* Expects that a batch which was not opened has nothing. */
+static void expect_none(const struct dpv_batch *batch, const char *what)
+{
+    struct dpv_batch none;
+    memset(&none, 0, sizeof none);
+    expect(batch->records != NULL || batch->bytes != NULL, 0, what);
+    expect((uint32_t)(memcmp(&batch->room, &none.room, sizeof none.room) != 0), 0, what);
+    expect((uint32_t)(memcmp(&batch->filled, &none.filled, sizeof none.filled) != 0), 0, what);
+}
+
+/* What is opened where malloc refuses its first or its second call: nothing, and nothing is left of it. */
+static void call_without_memory(const uint8_t *text, size_t text_length, const uint8_t *packed, size_t packed_length)
+{
+    struct dpv_reason reason;
+    struct dpv_batch batch;
+    struct dpv_totals totals;
+    dpv_t *engine;
+    memset(&reason, 0xa5, sizeof reason);
+    granted = 0;
+    expect(dpv_open(text, text_length, packed, packed_length, &reason) != NULL, 0, "an engine without memory");
+    granted = -1;
+    expect(reason.cause, 1, "the cause without memory");
+    expect(reason.length, 6, "the length of its text");
+    expect((uint32_t)(memcmp(reason.text, "memory\0", 8) != 0 || reason.text[DPV_MAX_REASON - 1] != 0), 0, "its text, and zeros");
+    engine = dpv_open(text, text_length, packed, packed_length, &reason);
+    if (engine == NULL)
+        exit(3);
+    for (int calls = 0; calls < 2; calls++) {
+        memset(&batch, 0xa5, sizeof batch);
+        granted = calls;
+        expect(dpv_burst_open(engine, &batch, 3), 1, "a batch without memory");
+        granted = -1;
+        expect_none(&batch, "a batch without memory has nothing");
+    }
+    expect(dpv_close(engine, &totals), DPV_OK, "close");
+    memset(&batch, 0xa5, sizeof batch);
+    expect(dpv_batch_open(engine, &batch), DPV_CLOSED, "a batch of an engine that was closed");
+    expect_none(&batch, "a batch of an engine that was closed has nothing");
+    dpv_free(engine);
+}
+
+/* Calls on an engine whose pipeline was not loaded. */
+static void call_unopened(void)
+{
+    dpv_t *engine = (dpv_t *)malloc((dpv_size() + 15) / 16 * 16);
+    static const uint8_t text[] = "region = ";
+    uint8_t frame[60] = {0};
+    struct dpv_reason reason;
+    struct dpv_record record;
+    struct dpv_batch batch;
+    struct dpv_port_stats port;
+    struct dpv_pool_stats pool;
+    struct dpv_ring_stats ring;
+    struct dpv_totals totals;
+    struct dpv_route route = {0, 0x0a000000, 8, 1};
+    struct dpv_hop hop = {77};
+    if (engine == NULL)
+        exit(3);
+    dpv_begin(engine, text, sizeof text - 1, frame, 0);
+    memset(&batch, 0xa5, sizeof batch);
+    expect(dpv_batch_open(engine, &batch), DPV_NOT_OPEN, "a batch of no pipeline");
+    expect_none(&batch, "a batch of no pipeline has nothing");
+    batch.records = &record;
+    batch.bytes = frame;
+    batch.room.records = batch.room.bytes = 1;
+    batch.filled.records = 7;
+    expect(dpv_pass(engine, 0, frame, sizeof frame, 0, &batch), DPV_NOT_OPEN, "a frame");
+    expect((uint32_t)batch.filled.records, 0, "records of no pipeline");
+    expect(dpv_port(engine, 0, &port), DPV_NOT_OPEN, "a port");
+    expect(dpv_pool(engine, 0, &pool), DPV_NOT_OPEN, "a pool");
+    expect(dpv_ring(engine, 0, &ring), DPV_NOT_OPEN, "a ring");
+    expect(dpv_route_add(engine, &route), DPV_NOT_OPEN, "a route");
+    expect(dpv_route_delete(engine, &route), DPV_NOT_OPEN, "a deletion");
+    expect(dpv_route_lookup(engine, 0, 0x0a000001, &hop), DPV_NOT_OPEN, "a look-up");
+    expect(hop.hop, 77, "the hop of that look-up");
+    expect(dpv_close(engine, &totals), DPV_NOT_OPEN, "close");
+    expect(dpv_why(engine, &reason), DPV_OK, "why");
+    expect(reason.cause, 11, "the cause of a text that is not TOML");
+    dpv_free(engine);
+}
+
 int main(int argc, char **argv)
 {
     static uint8_t text[1 << 20], packed[1 << 20];
@@ -112,6 +208,8 @@ int main(int argc, char **argv)
         dpv_batch_close(&batch);
         dpv_free(engine);
     }
+    call_without_memory(text, text_length, packed, packed_length);
+    call_unopened();
     /* Files that are cut at each byte: none of them opens, and each says why. */
     for (size_t cut = 0; cut < packed_length; cut++) {
         dpv_t *engine = dpv_open(text, text_length, packed, cut, &reason);

@@ -242,6 +242,8 @@ BECAME = {
     "kept": ["freed (port 0, 6), freed (ring 0, 0)", *(4 * ["waits in a ring"]), *(2 * ["refused: it got no buffer"])],
     "lost": [GONE, LONG, "cut (port 2, 0)", GONE, LONG, "cut (port 2, 0)", LONG],
 }
+# The port and the length of each, in the order in which they come.
+CAME = {"kept": [(0, 8), *(6 * [(1, 60)])], "lost": [*(2 * [(0, 60), (1, 100), (2, 60)]), (1, 100)]}
 # Words after `trace it.toml`, and the numbers of the records that are printed.
 PICKED: list[tuple[str, list[str], list[int]]] = [
     ("kept", ["--only", "refused"], [6, 7]), ("kept", ["--only", "freed"], [1]), ("kept", ["--only", "6"], [6]), ("kept", ["--port", "1", "--records", "5"], [1, 2, 3, 4, 5]),
@@ -325,7 +327,9 @@ def traces(program: str, folder: pathlib.Path) -> list[bool]:
         run = subprocess.run([program, "trace", "it.toml", "--json", *words], cwd=folder / name, capture_output=True, text=True, timeout=60)
         docs = [json.loads(line) for line in run.stdout.splitlines()]
         found = [it.get("record") for it in docs[:-1]] == numbers and docs[-1] == {"fault": None, "printed": len(numbers)}
-        passed.append(found and (bool(words) or [it["became"] for it in docs[:-1]] == BECAME[name]))
+        came = [(it["port"], it["time"], it["bytes"], it["became"]) for it in docs[:-1]]
+        wanted = [(port, "1.000002000", size, said) for (port, size), said in zip(CAME[name], BECAME[name])]
+        passed.append(found and (bool(words) or came == wanted))
         if not passed[-1]:
             print(f"helps: {name}: trace {words}: {[(it.get('record'), it.get('became')) for it in docs]}")
     return passed

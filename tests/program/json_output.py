@@ -59,6 +59,11 @@ SENT = 6
 # bytes follow.
 PASS = "tx p0,r0,full\nexit\nfull: free p0\nexit\n"
 HEADER = "4500001e 0000 0000 4011 0000 0a000001 0a000002"
+# The same to another address, the addresses of an IPv6 header, and what is said of each protocol with these ports.
+OTHER, IPV6 = HEADER.replace("0a000002", "0a000003"), "20010db8 00000000 00000000 00000001 fe800000 0000000a 00000000 0000ff02"
+PROTOCOLS = {
+    1: "ICMP", 2: "IGMP", 6: "TCP 7 > 9", 17: "UDP 7 > 9", 47: "GRE", 50: "ESP", 58: "ICMP6", 132: "SCTP", 0: "protocol 0", 99: "protocol 99",
+}
 SUMMARIES = (
     ("0800", "IP cut short"),
     (f"0800 {HEADER[:-2]}", "IP cut short"),
@@ -70,6 +75,12 @@ SUMMARIES = (
     ("8100 0005", "vlan 5 cut short"),
     ("8100", "ethertype 0x8100"),
     ("86dd 6000" + " 00" * 37, "IP6 cut short"),
+    ("", "no Ethernet header"),
+    ("08", "no Ethernet header"),
+    ("0806", "ARP"),
+    ("88cc", "ethertype 0x88cc"),
+    *((f"0800 {OTHER.replace('4011', f'40{number:02x}')} 0007 0009", f"IP 10.0.0.1 > 10.0.0.3 {said}") for number, said in PROTOCOLS.items()),
+    *((f"86dd 60000000 0004{number:02x}40 {IPV6} 0007 0009", f"IP6 2001:db8:0:0:0:0:0:1 > fe80:0:0:a:0:0:0:ff02 {said}") for number, said in PROTOCOLS.items()),
 )
 
 
@@ -477,6 +488,7 @@ def summaries(program: str, folder: pathlib.Path) -> list[tuple[str, bool]]:
     for words in (["trace-one", "pass.dpv", "pass.cert", "frames.pcap"], ["trace", "small.toml"]):
         docs = [document(line + b"\n") for line in run(program, folder, *words, "--json", "--records", "99").out.splitlines()]
         cases += [(f"{words}: {said}", doc["summary"] == said) for doc, (_, said) in zip(docs, SUMMARIES, strict=False)]
+        cases.append((f"{words}: all records", len(docs) == len(SUMMARIES) + 1))
         for pattern, wanted in (("10.0.0.2", [3, 4, 5, 6, 7]), ("0a000002@30", [3, 4, 5]), ("0800@16", [6])):
             made = run(program, folder, *words, "--match", pattern, "--json").out.splitlines()
             cases.append((f"{words} --match {pattern}", [json.loads(line).get("record") for line in made[:-1]] == wanted))
