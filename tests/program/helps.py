@@ -43,8 +43,8 @@ PROGRAMS: list[tuple[bytes, int, int, str, str]] = [
     (b"exit\nfree p0 \xc3\xbc\n", 2, 1, "there is a byte that no program has", "character 9 is not a printable ASCII character"),
     (b"a: free p0\nb: exit\na: exit\n", 3, 7, "the label was given before", "'a' is the label of line 1, too"),
     (b"a: a: exit\n", 1, 7, "the label was given before", "each label is given once"),
-    (b"exit\njmp agan\nagain: exit\n", 2, 8, UNKNOWN, "no line gives the label 'agan'; did you mean 'again'?"),
-    (b"jmp zzzzzz\nexit\n", 1, 8, UNKNOWN, "no line gives the label 'zzzzzz'"),
+    (b"exit\njmp agan\nagain: exit\n", 2, 8, UNKNOWN, "no line defines the label 'agan'; did you mean 'again'?"),
+    (b"jmp zzzzzz\nexit\n", 1, 8, UNKNOWN, "no line defines the label 'zzzzzz'"),
     (b"jmp a\na:\n", 1, 8, UNKNOWN, "no instruction follows the label 'a' of line 2"),
     (1025 * b"exit\n", 1025, 9, "there is no instruction, or there are more than 1024", "a program has 1 to 1024 instructions"),
 ]
