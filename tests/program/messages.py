@@ -359,6 +359,17 @@ def no_text() -> Iterator[Case]:
         yield Case(words, 2, "error: an argument is not UTF-8\n")
 
 
+def options() -> Iterator[Case]:
+    """Words that are no numbers within their ranges, and words that name no node."""
+    for name, least, most, words in (("room", 129, 4096, ("0", "128", "4097", "", "x", "+129")), ("segs", 1, 64, ("0", "65", "", "-1"))):
+        for word in words:
+            reported = f"error: --{name} '{word}' is not a number from {least} to {most}\n"
+            yield Case(["filter", "none", "none", "none", f"--{name}={word}"], 2, reported)
+    for word in ("port", "port10", "x", "Port0"):
+        yield Case(["infer", "none", word], 2, f"error: '{word}' names no node: port or ring, and one digit\n")
+        yield Case(["explain", "none", word], 2, f"error: '{word}' names no node: port or ring, and one digit\n")
+
+
 def traces() -> Iterator[Case]:
     """Words of `dpv trace` that are not a port or a number of records, or that pick no records, before any file is read; and ports and labels
     that the pipeline does not have."""
@@ -382,6 +393,7 @@ def traces() -> Iterator[Case]:
     for more in (["--only", "99"], ["--match", "ff@60000"], ["--only", "99", "--json"]):
         yield Case(["trace", "both.toml", *more], 0, unmatched)
         yield Case(["trace-one", "strip.dpv", "strip.cert", "in.pcap", *more], 0, unmatched)
+    yield Case(["trace", "both.toml", "--instr", "d"], 0, unmatched)
     yield Case(["trace-one", "strip.dpv", "strip.cert", "in.pcap", "--port", "1"], 2, "error: the pipeline has no port 1\n")
     yield Case(["trace-one", "none", "none", "none", "--port", "8"], 2, "error: '8' is not a port: a number from 0 to 7\n")
     yield Case(["trace-one", "strip.dpv", "strip.cert", "none"], 3, file("none", system(errno.ENOENT)))
@@ -396,8 +408,9 @@ def progress() -> Iterator[Case]:
     """Runs with --progress, also ones that stop; if the captures are missing nothing is read."""
     one, step = ["one", "--progress", "strip.dpv", "strip.cert"], f"progress: port 0: {MILLION} records read\n"
     yield Case([*one, "many.pcap", "out"], 0, in_all(2000))
+    yield Case([*one, "little.pcap", "/dev/null"], 0, step + in_all(MILLION + 1))
+    yield Case(["run", "--progress", "million.toml"], 0, step.replace("port 0", "port 1") + in_all(1, MILLION + 1))
     for name in ("little.pcap", "big.pcap"):
-        yield Case([*one, name, "/dev/null"], 0, step + in_all(MILLION + 1))
         yield Case(["one", *one[2:], name, "/dev/null"], 0, "")
     yield Case([*one, "link.pcap", "out"], 3, in_all(0) + of_input(0, 3, "link.pcap", "the link type is 101 RAW, and not 1 ETHERNET"))
     yield Case([*one, "none", "out"], 3, file("none", system(errno.ENOENT)))
@@ -447,6 +460,7 @@ def make_more(folder: pathlib.Path) -> None:
         "routed": pipeline(["none"], table=table.replace("1", "2").format("10.0.0.0/8 1") + "[[table]]\nrules = 9\ngroups = 0\nroutes = []\n"),
         "late_full": run_of(["one.pcap", "two.pcap"], ["out0", "/dev/full"]),
         "crossed": run_of(["one.pcap", "kept.pcap"], ["kept.pcap", "out1"]),
+        "million": run_of(["one.pcap", "big.pcap"], ["/dev/null", "/dev/null"]),
         "two_links": run_of(["one.pcap", "101.big.pcap"], ["out0", "out1"]),
         "narrow": run_of(["wide.pcap"], ["out0"]).replace("room = 2176", "room = 192"),
         "looped": pipeline(["loop.dpv"], ["loop.dpv"]).replace('in = "none"', 'in = "one.pcap"').replace('out = "none/none"', 'out = "out0"'),
@@ -545,7 +559,7 @@ def main() -> int:
     with nested_folder() as folder:
         make_files(folder)
         make_more(folder)
-        kinds = (files, captures, links, unfit, cures, route_files, in_folders, full_disks, pipelines, same_files, no_text, traces, progress, drops, nothing_reported)
+        kinds = (files, captures, links, unfit, cures, route_files, in_folders, full_disks, pipelines, same_files, no_text, options, traces, progress, drops, nothing_reported)
         passed = [ends_so(program, case, folder) for kind in kinds for case in kind()]
         passed.append(goes_on(program, folder))
         passed += as_nobody(program, folder)
