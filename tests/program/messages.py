@@ -384,6 +384,8 @@ def traces() -> Iterator[Case]:
         reported = f"error: '{which}' is none of sent, freed, refused and cut, and no number of a record\n"
         yield Case(["trace", "none", f"--only={which}"], 2, reported)
     yield Case(["trace", "both.toml", "--instr", "nowhere"], 2, "error: no program has an instruction 'nowhere'\n")
+    for word in ("sho", "short:", "Short"):
+        yield Case(["trace-one", "strip.dpv", "strip.cert", "in.pcap", "--instr", word], 2, f"error: no program has an instruction '{word}'\n")
     yield Case(["trace", "both.toml", "--instr", "1024"], 2, "error: no program has an instruction '1024'\n")
     yield Case(["trace", "both.toml", "--port", "1", "--records", "1", "--only", "sent", "--instr", "0"], 0, "")
     yield Case(["trace", "both.toml", "--port", "1", "--records", "1"], 0, "")
