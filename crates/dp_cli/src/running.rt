@@ -102,7 +102,7 @@ pub fn unopened<R: Files>(request: &Request<'_, '_, R>, fault: CaptureFault<'_>)
     };
     let (mut words, mut help) = (Text::new(alloc), Text::new(alloc));
     words.say(problem.reason);
-    let reason = FaultReason::Words(str::from_utf8(words.bytes.as_slice()).unwrap_or(""));
+    let reason = FaultReason::Words(words.words());
     if let CaptureReason::System(error) = problem.reason
         && error.kind() == ErrorKind::NotFound
         && let Some(file) = request.words.get_str("FILE")
@@ -110,8 +110,8 @@ pub fn unopened<R: Files>(request: &Request<'_, '_, R>, fault: CaptureFault<'_>)
     {
         help.say(format_args!("run dpv in {folder}"));
     }
-    let help = match str::from_utf8(help.bytes.as_slice()) {
-        Ok(line) if !line.is_empty() && !help.has_failed => Some(line),
+    let help = match help.words() {
+        line if !line.is_empty() && !help.has_failed => Some(line),
         _ => problem.reason.cure(),
     };
     let because = Because {

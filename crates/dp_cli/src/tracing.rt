@@ -142,10 +142,9 @@ fn said_of(
         say_stop(cause, problem, &mut err);
     }
     if shown.is_json {
-        let reported = str::from_utf8(err.bytes.as_slice()).unwrap_or("");
         let fault = match run.answer {
             Ok(()) => None,
-            Err(_) => Some((FAULT, reported.lines().next().unwrap_or(""))),
+            Err(_) => Some((FAULT, err.words().lines().next().unwrap_or(""))),
         };
         say_end(alloc, fault, run.shown, &mut out);
     }

@@ -194,8 +194,7 @@ fn strange<R>(request: &Request<'_, '_, R>, file: &RouteFile) -> Option<Reply>
     let number = file.strange_line()?;
     let mut text = Text::new(alloc);
     text.say(format_args!("line {number} has a character that is not printable ASCII"));
-    let words = str::from_utf8(text.bytes.as_slice()).unwrap_or("");
-    Some(failed(alloc, fault_of(name, words), is_json))
+    Some(failed(alloc, fault_of(name, text.words()), is_json))
 }
 
 /// Reads a file with routes.

@@ -229,11 +229,11 @@ impl<'a> Record<'a> {
 
     /// The record as a document.
     fn document(&self, turn: Turn) -> Document {
-        let (mut to, text) = (Document::new(self.alloc), text_of(&self.text));
+        let (mut to, text) = (Document::new(self.alloc), self.text.words());
         let (number, port, time, len) = self.arrival;
         let (seconds, nanos) = (time.sec, time.nano);
         to.begin_object("");
-        to.item("became", Item::Text(text_of(&self.became)));
+        to.item("became", Item::Text(self.became.words()));
         to.item("bytes", Item::Number(len as u64));
         to.item("cuts", Item::Number(u64::from(turn.cuts)));
         to.begin_list("events");
@@ -257,11 +257,6 @@ impl<'a> Record<'a> {
         to.end_object();
         to
     }
-}
-
-/// A text of a trace, which has UTF-8 alone.
-fn text_of(text: &Text) -> &str {
-    str::from_utf8(text.bytes.as_slice()).unwrap_or("")
 }
 
 /// The name of an outcome, and what then becomes of a record whose packets no instruction sends or frees.
