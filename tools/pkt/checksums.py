@@ -58,19 +58,9 @@ def chain(way: Way, name: str | None) -> list[str]:
     return [name, *chain(way, conditions.header_before(way, name))] if name else []
 
 
-def places(way: Way, name: str) -> list[int]:
-    """The places where a header that was found may be."""
-    if not way.is_far(name):
-        return [way.begins(name)]
-    before = next(it for it in chain(way, name) if not way.is_far(it))
-    return [way.begins(before) + way.headers[before].sizes[value] + way.begins(name) for value in way.far.lengths]
-
-
 def require_even(way: Way, outer: str, inner: str) -> None:
     """Refuses a checksum whose words begin at other bytes than those of a header within what it covers."""
-    inside = [way.begins(inner)] if way.is_far(outer) else places(way, inner)
-    distances = [it - way.begins(outer) for it in inside]
-    is_even = all(it % 2 == 0 for it in distances)
+    is_even = all((at - begin) % 2 == 0 for at, begin in zip(way.places(inner), way.places(outer)))
     require(is_even, way.at, f"the words of the checksum of {outer} begin at other bytes", "`mend` needs a header at an even place")
 
 

@@ -221,7 +221,14 @@ def search_at(way: Way, header: Header, before: str, found: Join[Way], missing: 
 def header_before(way: Way, name: str) -> str | None:
     """The header that a header follows: among those that were found, the one that begins last."""
     found = [it for it in way.headers[name].follows if way.found.get(it) is not None]
-    return max(found, key=lambda it: (way.is_far(it), way.begins(it)), default=None)
+    last = {found[places.index(max(places))] for places in zip(*map(way.places, found))}
+    require(len(last) < 2, way.at, *after_two(name, way.far.before))
+    return min(last, default=None)
+
+
+def after_two(name: str, before: str) -> tuple[str, str]:
+    """The error where it is not known which header one follows, or where."""
+    return f"{name} is after two headers whose lengths vary", f"`need` one length of {before} before"
 
 
 def at_place(way: Way, header: Header, at: int, found: Join[Way], missing: Join[Way]) -> None:
@@ -240,15 +247,20 @@ def search_behind(way: Way, header: Header, before: Header, found: Join[Way], mi
         look = behind_far if way.is_far(before.name) else at_place
         return look(way, header, base + before.size, found, missing)
     is_one = not way.is_far(before.name) and (way.far == NEAR or way.far.base == base)
-    require(is_one, way.at, f"{header.name} is after two headers whose lengths vary", f"`need` one length of {before.name} before")
-    if way.far != NEAR and header.size <= way.far.size and may_be_far(way, header, before):
+    require(is_one, way.at, *after_two(header.name, before.name))
+    # The register has where this header begins, unless it was computed for another one or from bits that changed.
+    is_there = way.far.before == before.name and not way.far.is_old
+    if is_there and header.size <= way.far.size and may_be_far(way, header, before):
         way.found[header.name] = FAR
         return way.jump(found)
     left = sizes_left(way, before)
     is_dense = len(left) > 2 and max(left) - min(left) == len(left) - 1
-    if is_dense and all(a < b for a, b in pairwise(left.values())) and may_be_far(way, header, before):
+    may_use = (is_there or way.far == NEAR) and may_be_far(way, header, before)
+    if is_dense and all(a < b for a, b in pairwise(left.values())) and may_use:
         return at_register(way, header, before, left, found, missing)
     for s, size in each_length(way, before, missing):
+        if is_there:
+            s.far = replace(s.far, lengths=tuple(it for it in s.far.lengths if it[1] == size))
         at_place(s, header, base + size, found, missing)
 
 
@@ -299,7 +311,7 @@ def behind_far(way: Way, header: Header, at: int, found: Join[Way], missing: Joi
     """Looks for a header this number of bytes after the offset in a register, at each value of which all its bytes have to be."""
     far, ready, end = way.far, Join[Way](), at + header.size
     if end > far.size:
-        sizes = [way.headers[far.before].sizes[value] for value in far.lengths]
+        sizes = [size for _, size in far.lengths]
         for size in sizes:
             way.emit("iflen", f"p{way.held[THIS]}", far.base + size + end + far.padding, to=missing)
             if size != sizes[-1]:
@@ -315,7 +327,7 @@ def at_register(way: Way, header: Header, before: Header, left: dict[int, int], 
     """Looks for a header at its usual place; for all other lengths of the one before it, tested in order, at an offset in a register."""
     base, span, ready = way.begins(before.name), first_bits(way, before), Join[Way]()
     if way.far.lengths:
-        left = {value: before.sizes[value] for value in way.far.lengths}
+        left = dict(way.far.lengths)
     else:
         first = min(left)
         at_place(if_length(way, span, first), header, base + left.pop(first), found, missing)
@@ -447,4 +459,4 @@ def go_far(way: Way, before: Header, left: dict[int, int]) -> Far:
         inside = way.emit("jlt", place, greatest + 1, to=Join())
         way.drop()
         way.last, way.bounds[place.r] = inside.last, greatest
-    return Far(padding, base, 0, tuple(left), place.r, before.name)
+    return Far(padding, base, 0, tuple(left.items()), place.r, before.name, first_bits(way, before))

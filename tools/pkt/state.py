@@ -57,14 +57,20 @@ class Packet:
 @dataclass(frozen=True)
 class Far:
     """Headers at an offset in a register: the zeros after the packet, the base of the offset, the bytes that are there, the possible values that
-    give the length of the header before them, and its name."""
+    give the length of the header before them, each with this length, its name, the bits that gave the offset, and whether they changed since then."""
 
     padding: int = 0
     base: int = 0
     size: int = 0
-    lengths: tuple[int, ...] = ()
+    lengths: tuple[tuple[int, int], ...] = ()
     register: int | None = None
     before: str = ""
+    span: Span = Span(0, 0)
+    is_old: bool = False
+
+    def may_meet(self, near: Span) -> bool:
+        """Whether bits at a constant place may be at the offset in the register too."""
+        return any(near.end > 8 * (self.base + size) for _, size in self.lengths)
 
 
 NEAR = Far()
@@ -93,7 +99,7 @@ class State:
 
     def signature(self) -> tuple[object, ...]:
         """The part of the state that must be equal where paths join, and no moves make equal."""
-        return *(frozenset(it.items()) for it in (self.held, self.found)), frozenset(self.registers()), self.far.padding, self.far.base
+        return *(frozenset(it.items()) for it in (self.held, self.found)), frozenset(self.registers()), self.far.padding, self.far.base, self.far.before
 
     def registers(self) -> dict[str, int]:
         """The registers of the variables, and of the offset."""
@@ -118,7 +124,7 @@ class State:
         """Keeps only the facts of both paths."""
         self.packets = {p: it.joined(other.packets[p]) for p, it in self.packets.items()}
         lengths = tuple(sorted({*self.far.lengths, *other.far.lengths}))
-        self.far = replace(self.far, size=min(self.far.size, other.far.size), lengths=lengths)
+        self.far = replace(self.far, size=min(self.far.size, other.far.size), lengths=lengths, is_old=self.far.is_old or other.far.is_old)
         self.bits = dict(self.bits.items() & other.bits.items())
         self.loaded = dict(self.loaded.items() & other.loaded.items())
         self.bounds = {r: max(b, other.bounds[r]) for r, b in self.bounds.items() if r in other.bounds}
@@ -135,6 +141,11 @@ class State:
         start = self.found.get(name)
         return start is not None and start.is_far
 
+    def places(self, name: str) -> list[int]:
+        """The byte at which a header that was found begins, for each offset that the register may have."""
+        offsets = [self.far.base + size for _, size in self.far.lengths] or [0]
+        return [self.begins(name) + self.is_far(name) * offset for offset in offsets]
+
     def known(self, span: Span) -> tuple[int, int]:
         """The known bits, and their values."""
         mask = value = 0
@@ -147,10 +158,16 @@ class State:
         self.bits |= {(span.is_far, bit): value >> span.end - 1 - bit & 1 for bit in range(span.bit, span.end)}
 
     def overwrite(self, span: Span) -> None:
-        """Records that bits changed, and forgets the other bits of their bytes."""
-        self.loaded = {it: r for it, r in self.loaded.items() if not it.meets(span)}
+        """Records that bits changed, and forgets the other bits of their bytes, and those at the offset in the register that may be the same."""
+        def may_be_same(it: Span) -> bool:
+            return it.is_far != span.is_far and self.far.may_meet(span if it.is_far else it)
+        self.loaded = {it: r for it, r in self.loaded.items() if not it.meets(span) and not may_be_same(it)}
         for bit in range(8 * span.bytes.start, 8 * span.bytes.stop):
             self.bits.pop((span.is_far, bit), None)
+        if self.far.lengths and (span.is_far or self.far.may_meet(span)):
+            self.bits = {(is_far, bit): it for (is_far, bit), it in self.bits.items() if not may_be_same(Span(bit, 1, is_far))}
+        if self.far.span.meets(span):
+            self.far = replace(self.far, is_old=True)
 
     def move(self, count: int, start: int = 0) -> None:
         """Records that the bytes from start on moved count bytes up, and that those before it changed."""
