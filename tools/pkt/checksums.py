@@ -40,9 +40,18 @@ def do_mend(way: Way, it: Mend, after: Join[Way], _: Join[Way]) -> None:
     needs, way = after.needs | way.unit.needs_of(it), way
     if is_nested:
         return cover_nested(way, own.name, names, over, needs, after)
+    absent = Join[Way](needs)
+    ways = [(s, [name]) for s, name in conditions.first_of(way, over, absent, needs)] if way.unit.decides(own, over) else [(way, over)]
+    for s, left in [*ways, *((s, list[str]()) for s in absent.begin())]:
+        update_plain(s, own.name, names, left, needs, after)
+
+
+def update_plain(way: Way, own: str, names: list[str], over: list[str], needs: Needs, after: Join[Way]) -> None:
+    """Updates the checksum of a header, and that of the first of others that is present."""
+    way = way
     for name in names:
         (way,) = paths(lambda updated: update_sum(way, name, updated, [DIFFERENCE]))
-    for s in paths(lambda done: cover(way, over, own.name, done), needs):
+    for s in paths(lambda done: cover(way, over, own, done), needs):
         end_mend(s, after)
 
 

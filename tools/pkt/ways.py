@@ -8,7 +8,7 @@ from functools import cache, cached_property
 from typing import Any, Generic, Self, TypeVar
 
 from .graph import Instruction
-from .headers import Headers, Span
+from .headers import Header, Headers, Span
 from .parser import Program
 from .state import EVERYTHING, NOTHING, OFFSET, Needs, State
 from .syntax import THIS, Assign, Field, Found, If, Mend, Name, Need, Node, Place, Pop, Push, children, parts, require
@@ -151,6 +151,11 @@ class Unit:
         spans, target = [own.fields[it.name] for it in fields], own.fields[other.target.name]
         asked = [span for name in over for header, span in self.asked_for(name) if header == own.name]
         return not any(target.meets(it) for it in asked) and not (own.sum and any(own.fields[own.sum].meets(it) for it in spans))
+
+    def decides(self, own: Header, names: list[str]) -> bool:
+        """Whether the checksum of a header may decide which of others are found, so that they are looked for before it is updated."""
+        asked = {pair for name in names for pair in self.asked_for(name)} if own.sum else set[tuple[str, Span]]()
+        return any(header == own.name and own.fields[own.sum].meets(span) for header, span in asked)
 
     def headers_of(self, it: Node) -> Iterable[str]:
         """The headers that a node itself uses."""
