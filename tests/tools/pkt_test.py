@@ -1375,6 +1375,8 @@ class Reached(unittest.TestCase):
             "new h from 0\npush vlan { } on h\nsend h to 0": "line 2: vlan is put at the front of h, with no eth before it; push eth { .. } vlan { .. } on h",
             f"{pppoe}\nneed ipv4": "line 2: pppoe is named nowhere else, so ipv4 is never looked for after it; if pppoe {} looks for it, before ipv4",
             "header h { a:8 } after eth if eth.type == 5 after vlan if vlan.type == 5\nneed h": "line 1: vlan is named nowhere else, so h is never",
+            "header h { a:8 } after eth if eth.type == 5 after udp if udp.dport == 5\nif h { drop }\nif udp.sport == 5 { drop }":
+                "line 1: udp is looked for later than h, which is never looked for after it; if udp {} looks for it, before h is used",
         }
         for source, text in wanted.items():
             with self.subTest(source):

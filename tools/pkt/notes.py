@@ -5,8 +5,8 @@ from collections.abc import Iterable, Iterator
 from .headers import Headers
 from .parser import Program
 from .syntax import (
-    OWN, THIS, Assign, Binary, Block, Chain, Clone, Compare, Cut, Field, Found, Free, If, Let, Mend, Name, Need, New, Node, Number, Place, Pop, Push, Send,
-    Truncate, While, children, goes_on, has, parts,
+    OWN, THIS, And, Assign, Binary, Block, Chain, Clone, Compare, Cut, Field, Found, Free, If, Inline, Let, Mend, Name, Need, New, Node, Not, Number, Or, Place,
+    Pop, Push, Send, Truncate, While, children, goes_on, has, parts,
 )
 
 # How many notes are shown.
@@ -14,6 +14,8 @@ MAX_NOTES = 10
 Noted = tuple[Place, str]
 # The fields with how many hops a packet goes on.
 HOPS = {"ipv4": "ttl", "ipv6": "hops", "mpls": "ttl"}
+# The parts of a text of which one is read after another; in others the headers are used in the order of their declarations.
+ORDERED = (If, Need, While, Inline, And, Or, Not)
 NAMES, PROTO = {1: "icmp", 6: "tcp", 17: "udp", 47: "gre"}, Field(Place(0, 0, ""), "ipv4", "proto")
 TYPE = Field(Place(0, 0, ""), "eth", "type")
 # The notes on a header at the front of a packet: the header, the packet, and the header that should come before.
@@ -206,6 +208,20 @@ def unasked(program: Program) -> Iterator[Noted]:
     for name, at in program.clauses:
         if name in looked_for and at.word not in looked_for and program.rows[at.line].path is None:
             yield at, f"{at.word} is named nowhere else, so {name} is never looked for after it; if {at.word} {{}} looks for it, before {name} is used"
+        elif name in looked_for and program.rows[at.line].path is None and is_late(program, name, at.word):
+            yield at, f"{at.word} is looked for later than {name}, which is never looked for after it; if {at.word} {{}} looks for it, before {name} is used"
+
+
+def is_late(program: Program, name: str, other: str) -> bool:
+    """Whether a header is first looked for after the last use of one that may follow it, which does not look for it itself."""
+    headers = program.headers
+    if other in headers.looked_for(name) or other in program.given:
+        return False
+    used = [{it for inner in (parts(part) if not isinstance(part, ORDERED) else (part,)) for it in headers_of(inner, headers)}
+            for part in parts(program.statements)]
+    searches = {it: headers.looked_for(it) for it in set().union(*used)}
+    users, lookers = ([k for k, names in enumerate(used) if any(wanted in searches[it] for it in names)] for wanted in (name, other))
+    return max(users, default=0) < min(lookers, default=0)
 
 
 def headers_of(it: Node, headers: Headers) -> Iterable[str]:
