@@ -406,6 +406,8 @@ class Slips(unittest.TestCase):
          "ipv4.src in 10.0.0.0/24 compares its first 24 bits", "need ipv4.src in 10.0.0.0/24\nsend port"),
         ("if eth.dst & ff:ff:ff:00:00:00 != 01:00:5e:00:00:01 { drop }\nsend port", "1:35", "eth.dst in 01:00:5e:00:00:00/24",
          "if not eth.dst in 01:00:5e:00:00:00/24 { drop }\nsend port"),
+        ("need vlan.vid & 0xfffff == 0x1000\nsend port", "1:28: the number beside it is at most 4,095", "its values are from 0 to 4,095",
+         "need vlan.vid & 0xfff == 0x100\nsend port"),
         ("need ipv4.src >> 24 == 10.0.0.0\nsend port", "1:24: the number beside it is at most 255: this is 10.0.0.0", "its values are from 0 to 255",
          "need ipv4.src >> 24 == 10\nsend port"),
         ("need ipv4.tos & 3 != 4\nsend port", "1:22: the number beside it is at most 3", "its values are from 0 to 3", "need ipv4.tos & 3 != 3\nsend port"),
