@@ -20,7 +20,7 @@ NAMES, PROTO = {1: "icmp", 6: "tcp", 17: "udp", 47: "gre"}, Field(Place(0, 0, ""
 TYPE = Field(Place(0, 0, ""), "eth", "type")
 # The notes on a header at the front of a packet: the header, the packet, and the header that should come before.
 FRONT = {
-    "tag": "{0} is put before the Ethernet header, with the headers pushed with it; a tag that is pushed alone is put behind it: the inner one first",
+    "tag": "{0} is put before the Ethernet header, with the headers pushed with it; a tag that is pushed alone is put after it: the inner one first",
     THIS: "{0} is put at the front of the packet, with no {2} before it; cut 14 and push eth {{ .. }} {0} {{ .. }} put an Ethernet header there",
     "other": "{0} is put at the front of {1}, with no {2} before it; push {2} {{ .. }} {0} {{ .. }} on {1} puts one there",
 }  # fmt: skip
@@ -83,7 +83,7 @@ def blocks_of(text: Block) -> Iterator[Block]:
 
 def taken_off(program: Program) -> Iterator[Noted]:
     """Headers that are read after a statement took them off, or the Ethernet header that they follow. A program that asks for the type of an
-    Ethernet header, or is for a ring, may know of another one behind it."""
+    Ethernet header, or is for a ring, may know of another one after it."""
     asks = (it for it in parts(program.statements) if isinstance(it, Compare) and TYPE in parts(it))
     if not program.is_for_ring and next(asks, None) is None:
         for block in blocks_of(program.statements):
@@ -132,7 +132,7 @@ def cleared(statements: list[Node], headers: Headers) -> Iterator[Noted]:
 
 
 def tags_late(program: Program) -> Iterator[Noted]:
-    """A tag that is looked for first after a rule about a header that may be behind it: of a tagged packet the rule asked nothing."""
+    """A tag that is looked for first after a rule about a header that may follow it: of a tagged packet the rule asked nothing."""
     rule: Place | None = None
     for it in program.statements:
         asked = it.condition if isinstance(it, (If, While)) else it
@@ -144,11 +144,11 @@ def tags_late(program: Program) -> Iterator[Noted]:
             yield it.at, f"{said}; `if {tag} {{}}` before the rule makes it one for them too"
         if any(program.headers[name].next for part in parts(it) for name in headers_of(part, program.headers)):
             return
-        if rule is None and isinstance(it, If) and has(it.condition, Compare) and any(is_behind_tags(name, program.headers) for name in used):
+        if rule is None and isinstance(it, If) and has(it.condition, Compare) and any(follows_tags(name, program.headers) for name in used):
             rule = it.at
 
 
-def is_behind_tags(name: str, headers: Headers) -> bool:
+def follows_tags(name: str, headers: Headers) -> bool:
     """Whether a header may follow a tag."""
     return any(headers[other].next for other in headers[name].before)
 
@@ -197,7 +197,7 @@ def in_front(statements: list[Node], headers: Headers) -> Iterator[Noted]:
 
 
 def is_inserted(it: Push, headers: Headers) -> bool:
-    """Whether a push puts a tag behind the header that it follows."""
+    """Whether a push puts a tag after the header that it follows."""
     return it.packet == THIS and len(it.headers) == 1 and headers[it.headers[0].header].next != ""
 
 

@@ -141,12 +141,12 @@ class Unit:
         return {id(one) for one, other in pairs if isinstance(one, Mend) and isinstance(other, Mend) and self.is_joined(one, other)}
 
     def is_joined(self, one: Mend, other: Mend) -> bool:
-        """Whether two assignments are of one header and change the same checksums, which lie behind it if they are in other headers; the second one
+        """Whether two assignments are of one header and change the same checksums, which lie after it if they are in other headers; the second one
         reads nothing else, and changes nothing that decides where those are."""
         own, over = self.headers[one.target.header], self.headers.covering(one.target)
         fields = [one.target, other.target, *(part for part in parts(other.value) if isinstance(part, Field))]
-        is_behind = all(it == own.name or self.headers[it].is_known or [*self.headers[it].follows] == [own.name] for it in over)
-        if not is_behind or any(it.header != own.name for it in fields) or self.headers.covering(other.target) != over:
+        is_after = all(it == own.name or self.headers[it].is_known or [*self.headers[it].follows] == [own.name] for it in over)
+        if not is_after or any(it.header != own.name for it in fields) or self.headers.covering(other.target) != over:
             return False
         spans, target = [own.fields[it.name] for it in fields], own.fields[other.target.name]
         asked = [span for name in over for header, span in self.asked_for(name) if header == own.name]
