@@ -21,7 +21,7 @@ import shared.paths  # noqa: F401
 
 from model.programs import FORMS
 from pkt.lexer import RESERVED
-from pkt.parser import WORDS
+from pkt.parser.grammar import WORDS
 from planted import CRATES, FOLDERS, TOP, Tally, counted, edits_in, fit, lanes
 
 # What `rt fmt` lays out in a crate.

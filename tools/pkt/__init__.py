@@ -3,7 +3,7 @@
 The compiler is not trusted: `dpv` infers a certificate for its output and checks it like any other node program. A mistake here can change
 the meaning of a program, but cannot make it read or write outside a packet.
 
-lexer.py and parser.py read a text; syntax.py has its parts, headers.py the headers and their fields, prelude.pkt those that are known.
+lexer.py and the folder parser read a text; syntax.py has its parts, headers.py the headers and their fields, prelude.pkt those that are known.
 A path through the program appends instructions and keeps the facts known at its end:
     state.py         the facts at one place: packets, headers, bytes, registers
     ways.py          paths, appending instructions to them, merge points, and the facts that a merge point has to keep

@@ -18,7 +18,7 @@ sys.path.insert(0, str(pathlib.Path(__file__).resolve().parent.parent))
 
 from pkt.compiler import compiled, error_text, parse  # noqa: E402
 from pkt.filtering import require_filter  # noqa: E402
-from pkt.parser import LIMITS  # noqa: E402
+from pkt.parser.grammar import LIMITS  # noqa: E402
 from pkt.prove.command import prove_text  # noqa: E402
 from pkt.syntax import SourceError  # noqa: E402
 

@@ -5,7 +5,8 @@ from itertools import pairwise
 from typing import cast
 
 from .headers import Header, Span, Start
-from .parser import COMPARISONS, substituted
+from .parser.grammar import COMPARISONS
+from .parser.nodes import substituted
 from . import registers
 from .registers import Value
 from .state import ALL, EVERYTHING, FAR, NEAR, SOMEBODY_THE_REST, Far, Needs
