@@ -26,7 +26,7 @@ from wanted import has
 TOP = pathlib.Path(__file__).resolve().parent.parent
 sys.path.insert(0, str(TOP / "tests/shared"))
 import paths  # noqa: E402 F401
-import compiled as compiled_nodes  # noqa: E402
+import compiled_nodes  # noqa: E402
 from command import program_of  # noqa: E402
 
 HERE = TOP / "bench" / "nodes"

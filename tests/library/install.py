@@ -53,6 +53,7 @@ def runs_programs(prefix: pathlib.Path, room: pathlib.Path) -> list[bool]:
     """The program: its version, an example, and a program of the language pkt."""
     dpv, example = str(prefix / "bin/dpv"), room / "strip"
     shutil.copytree(prefix / "share/doc/dpv/examples/strip", example, dirs_exist_ok=True)
+    shutil.copytree(prefix / "share/doc/dpv/examples/ttl", example, dirs_exist_ok=True)
     built = run([dpv, "build", "strip.pkt"], example)
     (example / "built.dpv").write_text(built.stdout)
     return [
@@ -60,7 +61,9 @@ def runs_programs(prefix: pathlib.Path, room: pathlib.Path) -> list[bool]:
         says("one", run([dpv, "one", "strip.dpv", "strip.cert", "in.pcap", "out.pcap"], example), "input whole"),
         says("build", built, ""),
         says("infer-one", run([dpv, "infer-one", "built.dpv"], example), "dpv-cert"),
+        says("compile", run([dpv, "compile", "ttl.toml"], example), "pub type Programs = Also<Program0, Nothing>;"),
         says("help", run([dpv, "help"], room), "build FILE.pkt"),
+        says("help on compile", run([dpv, "help"], room), "compile FILE"),
         says("no words", run([dpv], room), "build FILE.pkt", 2),
         says("filter", run([dpv, "filter", "strip.pkt", "in.pcap", "filtered.pcap"], example), "input whole"),
         is_missing(run([dpv, "filter", "nothing.pkt", "in.pcap", "filtered.pcap"], example)),

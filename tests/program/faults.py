@@ -416,7 +416,7 @@ def is_heard(program: str, words: list[str]) -> bool:
 # Commands in examples/ttl, each of which prints something.
 PRINTING = (
     ["--help"], ["run", "--help"], ["check", "ttl.toml"], ["check", "ttl.toml", "--json"], ["check", "ttl.toml", "--sizes"], ["check", "ttl.toml", "--cost"], ["explain", "ttl.toml"],
-    ["infer", "ttl.toml", "port0"], ["infer-one", "ttl.dpv"], ["show", "ttl.toml", "port0"], ["show", "ttl.toml", "--dot"], ["compile", "ttl.toml"],
+    ["infer", "ttl.toml", "port0"], ["infer-one", "ttl.dpv"], ["show", "ttl.toml", "port0"], ["show", "ttl.toml", "--dot"],
     ["run", "ttl.toml", "--no-out", "0"], ["run", "ttl.toml", "--no-out", "0", "--counts"], ["run", "ttl.toml", "--no-out", "0", "--json"],
     ["filter", "ttl.dpv", "in.pcap", "/dev/null"], ["trace", "ttl.toml"], ["trace", "ttl.toml", "--json"],
 )

@@ -256,7 +256,7 @@ def capture(frames: list[bytes]) -> bytes:
 def launcher(program: str, folder: pathlib.Path) -> str:
     """A script that starts the program as an installed dpv does."""
     script = folder / "dpv"
-    script.write_text(f'#!/bin/sh\nprogram="{program}" pkt="{TOP}/tools/pkt" version= commit=\n. "{TOP}/tools/launch"\nlaunch "$@"\n')
+    script.write_text(f'#!/bin/sh\nprogram="{program}" pkt="{TOP}/tools/pkt" compiled_nodes="{TOP}/tools/compiled_nodes.py" version= commit=\n. "{TOP}/tools/launch"\nlaunch "$@"\n')
     script.chmod(0o755)
     return str(script)
 

@@ -19,8 +19,10 @@ import tempfile
 import paths  # noqa: F401
 
 import compiled
+import compiled_nodes
 from command import TOP, new_folder, program_of
 from fuzz import Dice, Maker
+from model.programs import assemble
 
 KINDS = ["one", "run"]
 # How many instructions the gate compiles at most, beside those of a first family.
@@ -44,7 +46,7 @@ def with_machine_code(program: str, nodes: list[bytes], *builder: str) -> str:
     """The program that has these node programs as machine code, which is built where it has to be."""
     with new_folder() as folder:
         module = folder / "programs.rt"
-        module.write_text(compiled.module(compiled.programs_of(nodes)))
+        module.write_text(compiled_nodes.module(compiled_nodes.programs_of(it for it in nodes if isinstance(assemble(it), list))))
         words = [str(TOP / "tools/compiled"), program, str(module), *builder]
         return subprocess.run(words, check=True, stdout=subprocess.PIPE, text=True).stdout.strip()
 
