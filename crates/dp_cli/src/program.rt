@@ -14,10 +14,8 @@ use clap::error::ErrorKind;
 use dp_captures::Streams;
 use dp_console::{Console, DONE, FAULT, Reply, USAGE};
 use dp_engine::{CompiledPrograms, Nothing};
-use dp_load::How;
-use dp_request::{Request, command, load_pipeline, read_file};
+use dp_request::{Request, command, read_file};
 use dp_script::mem_reply;
-use dp_show::compile_reply;
 use dp_sources::Fault;
 use dp_verdict::failed;
 use std::alloc::{AllocError, Global};
@@ -66,10 +64,6 @@ fn explained_or_made<R: Files>(request: &Request<'_, '_, R>) -> Result<Reply, Re
     match request.name {
         "explain" | "explain-one" => explained(request),
         "show" | "show-one" => shown(request),
-        "compile" => {
-            let loaded = load_pipeline(request, How::Given)?;
-            Ok(compile_reply(request.alloc, &loaded.pipeline))
-        }
         "mem" => {
             let script = read_file(request, request.word("FILE"))?;
             Ok(mem_reply(request.alloc, script.bytes.as_slice()))

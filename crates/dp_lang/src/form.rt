@@ -146,20 +146,6 @@ macro_rules! list {
     (; $($name:ident $word:literal $fields:tt;)+) => { &[$(Form::$name),+] };
 }
 
-/// Expands to a match from a form to the name of its variant.
-macro_rules! variant {
-    ($form:expr ; $($name:ident $word:literal $fields:tt;)+) => {
-        match $form { $(Form::$name => stringify!($name),)+ }
-    };
-}
-
-/// Expands to a match from a form to the names of its fields, in order.
-macro_rules! fields {
-    ($form:expr ; $($name:ident $word:literal { $($field:ident: $kind:ident $(($range:ident))?),* };)+) => {
-        match $form { $(Form::$name => &[$(stringify!($field)),*],)+ }
-    };
-}
-
 /// Expands to a match from a form to its word.
 macro_rules! word {
     ($form:expr ; $($name:ident $word:literal $fields:tt;)+) => {
@@ -246,16 +232,6 @@ impl Form {
         ensures { result.now ≡ word_of self }
     {
         forms!(word self)
-    }
-
-    /// The name of its variant of `Instr`.
-    pub fn variant(self) -> &'static str {
-        forms!(variant self)
-    }
-
-    /// The names of the fields of that variant, in the order of the text.
-    pub fn fields(self) -> &'static [&'static str] {
-        forms!(fields self)
     }
 
     /// The kinds of its operands, in order.

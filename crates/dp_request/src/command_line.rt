@@ -29,8 +29,6 @@ show: Prints a program of a pipeline with what is known before each instruction:
     FILE WHICH_OR_PIPELINE dot calls counts_file;
 show-one: Prints one program, on the port of one, with what is known before each instruction:
     NODE CERT_OR_NONE dot calls;
-compile: Prints the Rattle module with which dpv is built for a pipeline's programs:
-    FILE;
 run: Runs a pipeline, from its captures to its captures:
     FILE inputs outputs no_inputs no_outputs routes refuse counts source drops json progress unbuffered;
 trace: Prints the first records of a pipeline instruction by instruction, and writes no capture:

@@ -6,12 +6,11 @@
 #![tactic(auto)]
 
 mod listing;
-mod module;
 mod picture;
 mod pipeline;
 mod showing;
 mod sizes;
 mod texts;
 
-pub use showing::{Counted, Form, compile_reply, counts_in, show};
+pub use showing::{Counted, Form, counts_in, show};
 pub use sizes::{PoolSize, Sizes, say_sizes, sizes_of};

@@ -1,14 +1,12 @@
-//! `dpv show` and `dpv show-one`: a program, perhaps with its counts as `dpv run FILE --counts --json` printed them, or the picture of a pipeline;
-//! and `dpv compile`, its programs as a Rattle module.
+//! `dpv show` and `dpv show-one`: a program, perhaps with its counts as `dpv run FILE --counts --json` printed them, or the picture of a pipeline.
 
 use crate::listing::say_listing;
-use crate::module::Module;
 use crate::picture::Picture;
 use crate::pipeline::say_pipeline;
 use dp_console::{FAULT, REFUSED, Reply, Text};
 use dp_counts::{CountsError, ReadCount, counts_of};
 use dp_lang::listing_of;
-use dp_load::{NodeName, PipeError, Pipeline};
+use dp_load::{NodeName, PipeError};
 use dp_model::Entry;
 use dp_sources::{Fault, MAX_NODES, Source, Sources, Subject, entry_at};
 use dp_verdict::{Judged, judge, no_node, unloaded};
@@ -160,15 +158,5 @@ pub fn show(
     if which.is_none() {
         say_pipeline(&mut reply.out, subject, nodes.as_slice());
     }
-    reply
-}
-
-/// The Rattle module of a pipeline's programs, each once, without those that are too long. If memory is refused, the reply is not whole.
-pub fn compile_reply(alloc: Global, pipeline: &Pipeline) -> Reply {
-    let (mut reply, mut module) = (Reply::new(alloc), Module::new(alloc));
-    for k in 0..pipeline.nodes() {
-        reply.out.has_failed |= module.add(pipeline.node(k).program()).is_err();
-    }
-    module.say_to(&mut reply.out);
     reply
 }
