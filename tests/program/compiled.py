@@ -137,8 +137,8 @@ class Compiling:
 
     def __init__(self, program: str, folder: pathlib.Path) -> None:
         self.program, self.folder, self.script = program, folder, folder / "dpv"
-        nodes = TOP / "tools/compiled_nodes.py"
-        self.script.write_text(f'#!/bin/sh\nset -eu\nprogram="{program}" compiled_nodes="{nodes}" version= commit=\n. "{TOP}/tools/launch"\nlaunch "$@"\n')
+        writer = TOP / "tools/compiled_nodes.py"
+        self.script.write_text(f'#!/bin/sh\nset -eu\nprogram="{program}" compiled_nodes="{writer}" version= commit=\n. "{TOP}/tools/launch"\nlaunch "$@"\n')
         self.script.chmod(0o755)
 
     def run(self, *words: str, cwd: pathlib.Path | None = None) -> tuple[int, str, str]:
