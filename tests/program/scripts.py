@@ -12,6 +12,12 @@ import paths  # noqa: F401
 
 from command import asked, new_folder, report_cases
 
+# what helps with a line that is no command
+COMMANDS = (
+    "region N comes first, with N a multiple of 64 from 4096 to 1073741824; then malloc SIZE ALIGN, zmalloc SIZE ALIGN, free K of a block that is held, "
+    "list or stats, with one blank before each number"
+)
+
 # the commands of a script, and the lines that they print
 PRINTED = [
     ("", ""),
@@ -93,11 +99,20 @@ def lines(text: str) -> bytes:
     return b"".join(part.encode("latin-1") + b"\n" for part in text.split("|")) if text else b""
 
 
+def fault(script: bytes, number: int) -> bytes:
+    """What is reported of a script whose line of this number is no command: the line stands there if the script is UTF-8."""
+    try:
+        line = ": " + script.decode().replace("\r\n", "\n").split("\n")[number - 1]
+    except UnicodeDecodeError:
+        line = ""
+    return f"fault: line {number} bad command\n  at: script:{number}{line}\n  help: {COMMANDS}\n".encode()
+
+
 def cases() -> list[tuple[bytes, tuple[int, bytes, bytes]]]:
-    """The scripts, and how each ends."""
-    found = [(lines(script), (0, lines(printed), b"")) for script, printed in PRINTED]
-    found += [(lines(script), (3, lines(printed), b"fault: line %d bad command\n" % line)) for script, printed, line in FAULTY]
-    return found + [(script[:-1], ended) for script, ended in found]
+    """The scripts, each with a newline at its end and without, and how each ends."""
+    found = [(lines(script), lines(printed), 0) for script, printed in PRINTED] + [(lines(script), lines(printed), line) for script, printed, line in FAULTY]
+    found += [(script[:-1], printed, line) for script, printed, line in found]
+    return [(script, (3, printed, fault(script, line)) if line else (0, printed, b"")) for script, printed, line in found]
 
 
 def main() -> int:

@@ -66,7 +66,8 @@ fn explained_or_made<R: Files>(request: &Request<'_, '_, R>) -> Result<Reply, Re
         "show" | "show-one" => shown(request),
         "mem" => {
             let script = read_file(request, request.word("FILE"))?;
-            Ok(mem_reply(request.alloc, script.bytes.as_slice()))
+            let (file, text) = (script.name.as_str(), script.bytes.as_slice());
+            Ok(mem_reply(request.alloc, file, text))
         }
         _ => Err(request.wrong("error: there is no such command")),
     }

@@ -177,15 +177,29 @@ fn run_script(alloc: Global, script: &[u8], out: &mut Text) -> Option<usize> {
     fault
 }
 
-/// Runs a heap script. The status is 0; or 3 if a line is at fault, which is reported, after what the lines before it print. If memory is refused,
-/// the reply is not whole.
-pub fn mem_reply(alloc: Global, script: &[u8]) -> Reply {
+/// What helps with a line that is no command.
+const COMMANDS: &str =
+    "region N comes first, with N a multiple of 64 from 4096 to 1073741824; then malloc SIZE ALIGN, \
+    zmalloc SIZE ALIGN, free K of a block that is held, list or stats, with one blank before each number";
+
+/// Says which line of a script is at fault, and what helps. A line that is not UTF-8 is said by its number alone.
+fn say_fault(file: &str, script: &[u8], number: usize, err: &mut Text) {
+    let mut lines = str::from_utf8(script).unwrap_or("").lines();
+    let line = lines.nth(number.saturating_sub(1)).unwrap_or("");
+    err.say(format_args!("fault: line {number} bad command\n  at: {file}:{number}"));
+    if !line.is_empty() {
+        err.say(format_args!(": {line}"));
+    }
+    err.say(format_args!("\n  help: {COMMANDS}\n"));
+}
+
+/// Runs a heap script, the text of this file. The status is 0; or 3 if a line is at fault, which is reported, after what the lines before it print. If
+/// memory is refused, the reply is not whole.
+pub fn mem_reply(alloc: Global, file: &str, script: &[u8]) -> Reply {
     let mut reply = Reply::new(alloc);
     if let Some(number) = run_script(alloc, script, &mut reply.out) {
         reply.status = FAULT;
-        reply
-            .err
-            .say(format_args!("fault: line {number} bad command\n"));
+        say_fault(file, script, number, &mut reply.err);
     }
     reply
 }
