@@ -59,7 +59,7 @@ EXPLAINED = (
         "the number of pools is 1", "a pool with the number 1, from 0", "declare one more in the pipeline, or name another")),
     Case("explain-one", "tx p0,r0,out\ntx p0,r0,none\nnone: exit\nout: free p0\nexit\n", (), 1, explained(
         "not inferred at 1 by J4", "2: tx p0,r0,none", "J4: each packet register that is used holds a packet",
-        "p0 empty", "a packet in p0", "put a packet into p0 before it, by alloc or clone")),
+        "p0 empty", "a packet in p0", "use p0 before it is sent, queued or freed; or put a packet into it by alloc or clone")),
     Case("explain-one", "alloc p0,0,out\nout: free p0\nexit\n", (), 1, explained(
         "not inferred at 0 by J5", "1: alloc p0,0,out", "J5: the target of alloc and clone is empty, and those of chain differ",
         "p0 sole, headroom 128, at most 1 segment", "p0 empty", "free p0 before it, or take another register")),

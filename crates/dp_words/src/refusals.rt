@@ -256,7 +256,8 @@ impl HintText {
             Reason::NoPool { .. } | Reason::NoTable { .. } | Reason::NoRing { .. } =>
                 "declare one more in the pipeline, or name another",
             Reason::NoInstruction { .. } => "end the program with exit or jmp",
-            Reason::NotHeld { .. } => "put a packet into p# before it, by alloc or clone",
+            Reason::NotHeld { .. } =>
+                "use p# before it is sent, queued or freed; or put a packet into it by alloc or clone",
             Reason::NotEmpty { .. } => "free p# before it, or take another register",
             Reason::OneRegister { .. } => "clone the packet, and chain the clone",
             Reason::TooLittle {

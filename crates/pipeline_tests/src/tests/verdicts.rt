@@ -155,7 +155,7 @@ static CASES: &[Case] = &[
         "port 0 not inferred at 1 by J4\nnode.dpv:2: tx p0,r0,none\n  \
             J4: each packet register that is used holds a packet\n  \
             known:  p0 empty\n  wanted: a packet in p0\n  \
-            help:   put a packet into p0 before it, by alloc or clone\n"
+            help:   use p0 before it is sent, queued or freed; or put a packet into it by alloc or clone\n"
     ),
     alone!(
         "alloc p0,0,out\nout: free p0\nexit\n",
