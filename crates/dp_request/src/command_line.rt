@@ -19,21 +19,21 @@ check: Checks the programs of a pipeline:
     FILE routes cost sizes json;
 infer: Infers the certificates of a pipeline, and prints one:
     FILE WHICH;
-infer-one: Infers the certificate of one program on the port of one, and prints it:
+infer-one: Infers the certificate of one program on the port of dpv one, and prints it:
     NODE;
 explain: Explains why programs of a pipeline are refused, and what helps:
     FILE WHICH_OR_ALL json;
-explain-one: Explains why one program is refused on the port of one, and what helps:
+explain-one: Explains why one program is refused on the port of dpv one, and what helps:
     NODE CERT_OR_NONE json;
 show: Prints a program of a pipeline with what is known before each instruction:
     FILE WHICH_OR_PIPELINE dot calls counts_file;
-show-one: Prints one program, on the port of one, with what is known before each instruction:
+show-one: Prints one program, on the port of dpv one, with what is known before each instruction:
     NODE CERT_OR_NONE dot calls;
 run: Runs a pipeline, from its captures to its captures:
     FILE inputs outputs no_inputs no_outputs routes refuse counts source drops json progress unbuffered;
 trace: Prints the first records of a pipeline instruction by instruction, and writes no capture:
     FILE routes records port refuse only instr bytes json_lines;
-trace-one: Prints the first records of one program, on the port of one, instruction by instruction:
+trace-one: Prints the first records of one program, on the port of dpv one, instruction by instruction:
     NODE CERT IN records port refuse only instr bytes json_lines at_once;
 mem: Runs a heap script:
     SCRIPT";
@@ -65,8 +65,8 @@ drops: --drops: prints the places where packets ended without being sent, most f
 progress: --progress: says on standard error how many records were read, each million and at the end
 unbuffered: --unbuffered -U: writes each record out as soon as it is sent, as for a pipe
 at_once: --unbuffered -U: changes nothing: a trace prints each record as soon as it ends
-room: --room N: the bytes of a buffer, from 129 to 4096, else 2176: a record has at most N - 128 for each segment
-segs: --segs N: how many segments a received record may have, from 1 to 64, else 1
+room: --room N: the bytes of a buffer, from 129 to 4096, 2176 by default: a record has at most N - 128 for each segment
+segs: --segs N: how many segments a received record may have, from 1 to 64, 1 by default
 name: --name NAME: what --counts calls the program, PROGRAM if not given
 inputs: --in PORT=NAME..: the capture that a port reads in place of its in; - is standard input
 outputs: --out PORT=NAME..: the capture that a port writes in place of its out; - is standard output
