@@ -1,9 +1,9 @@
 //! The commands of the program `dpv` over the host's files.
 //!
 //! [`run_command_line`] is the program: it finds the command by the words of the command line, reads the files that the command needs, decides, and
-//! prints the reply. The words and the files are read by dp_request. What decides is in the crates below: dp_verdict (`check`, `explain`, `infer`), dp_show
-//! (`show`, pictures), dp_script (`mem`), and dp_runs over dp_captures (`run`, `one`, `filter`, `trace`). Here is the order in which a
-//! command calls them, and so the order in which faults are found.
+//! prints the reply. The words and the files are read by dp_request. What decides is in the crates below: dp_verdict (`check`, `explain`, `infer`),
+//! dp_show (`show`, pictures), dp_script (`mem`), and dp_runs over dp_captures (`run`, `one`, `filter`, `trace`). Here is the order in which a command
+//! calls them, and so the order in which faults are found.
 //!
 //! What not to do: do not print to the streams directly, as the [`Console`](dp_console::Console) remembers a failed write for the status.
 #![tactic(auto)]

@@ -59,8 +59,8 @@ fn wrong_words<R: Print + Eprint, O: Write, E: Write>(
     }
 }
 
-/// What a command replied that explains, shows or makes something.
-fn explained_or_made<R: Files>(request: &Request<'_, '_, R>) -> Result<Reply, Reply> {
+/// What a command replied that explains or shows programs, or runs a heap script.
+fn explained_or_shown<R: Files>(request: &Request<'_, '_, R>) -> Result<Reply, Reply> {
     match request.name {
         "explain" | "explain-one" => explained(request),
         "show" | "show-one" => shown(request),
@@ -84,7 +84,7 @@ fn replied<K: CompiledPrograms, R: Files>(request: &Request<'_, '_, R>) -> Resul
         "check" => checked(request),
         "infer" => inferred(request),
         "infer-one" => inferred_one(request),
-        _ => explained_or_made(request),
+        _ => explained_or_shown(request),
     }
 }
 

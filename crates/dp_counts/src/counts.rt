@@ -111,7 +111,7 @@ impl Counts {
     ///
     /// # Errors
     ///
-    /// `AllocError` if the memory for the counts, 512 kB, is refused.
+    /// `AllocError` if the memory for the counts, 560 kB, is refused.
     pub fn new(alloc: Global) -> Result<Counts, AllocError>
         ensures { IfOk result HasNone }
     {

@@ -81,7 +81,7 @@ pub fn pattern_in(word: &str) -> Option<Pattern> {
 }
 
 impl Pattern {
-    /// Whether a record has the bytes. An address is looked for behind VLAN tags, too.
+    /// Whether a record has the bytes. An address is looked for after VLAN tags, too.
     pub fn is_in(&self, record: &[u8]) -> bool {
         let bytes = self.0.get(..self.1).unwrap_or(&[]);
         let rest = untagged(record);
