@@ -1,5 +1,5 @@
 #!/usr/bin/env python3
-"""Compares what the built program dpv prints about programs with texts that were worked out by hand: explain, show, infer-one and check --cost.
+"""Compares what the built program dpv prints about programs with texts that were worked out by hand: explain, show, infer-one, check --cost and trace.
 
 Usage: tests/program/judged.py [PROGRAM]   (the built program; by default the one that ./dpv builds and runs)
 Programs that are accepted, that are refused with a certificate or without one, that have code that is never reached, or that are no programs; by
@@ -13,6 +13,7 @@ from typing import NamedTuple
 import paths  # noqa: F401
 
 from command import asked, new_folder, report_cases
+from faults import capture
 
 # A row in which p0 is sole, with a headroom of 128 and one segment, and such rows of a longer and of a shorter packet. Zeros follow.
 SOLE, LONGER, SHORTER = "010102008000000000000001", "01010200800000000e000001", "010102008e00000000000001"
@@ -31,6 +32,9 @@ OTHER, LOST = (SOLE, SOLE, SHORTER, NONE, SOLE, NONE), "exit\n" * 6
 # A program that appends to a packet whose last segment is shared, and one that reads at an index of this width.
 TAIL = "clone p1,p0,0,d\nalloc p2,0,e\nappend p2,14\nchain p2,p1\niftail p2,4,f\nappend p2,4\nf: free p2\nfree p0\nexit\ne: free p1\nd: free p0\nexit\n"
 AT_INDEX = "iflen p0,14,d\nload r2,p0,0,WIDTH\nloadx r1,p0,r2,0,1\nd: free p0\nexit\n"
+# A program that writes to a packet that another register shares, none of them p0.
+SECOND = "alloc p1,0,d\nappend p1,14\nclone p2,p1,0,e\nstore p1,0,8,r0\nfree p2\ne: free p1\nd: free p0\nexit\n"
+J6, J11 = "J6: the packet has the bytes or the room that the instruction needs", "J11: the facts after the instruction satisfy the row of each successor"
 
 
 class Case(NamedTuple):
@@ -101,6 +105,24 @@ EXPLAINED = (
         "refused at 0 by J11", "1: tx p0,r0,d", "J11: the facts after the instruction satisfy the row of each successor",
         "p0 sole, headroom 128, at most 1 segment", "at 2, d: p0 sole, headroom 128, first 1, at most 1 segment",
         "let dpv infer write the certificate, or test for more before it")),
+    Case("explain-one", "prepend p0,200\nfree p0\nexit\n", (), 1, explained(
+        "not inferred at 0 by J6", "1: prepend p0,200", J6, "p0 headroom 128", "p0 headroom 200", "ifhead p0,200,L before it")),
+    Case("explain-one", "append p0,4\nfree p0\nexit\n", (), 1, explained(
+        "not inferred at 0 by J6", "1: append p0,4", J6, "p0 tailroom 0", "p0 tailroom 4", "iftail p0,4,L before it")),
+    Case("explain-one", "trim p0,4\nfree p0\nexit\n", (), 1, explained(
+        "not inferred at 0 by J6", "1: trim p0,4", J6, "p0 last 0", "p0 last 4", "iflast p0,4,L before it")),
+    Case("explain-one", SECOND, (), 1, explained(
+        "not inferred at 3 by J7", "4: store p1,0,8,r0", "J7: what it writes is not shared",
+        "p1 in group p1, headroom 128, tailroom 2034, first 14, last 14, at most 1 segment", "p1 sole or head sole", "free its clones before it, or write before clone")),
+    Case("explain-one", "free p0\n", (), 1, explained(
+        "not inferred at 0 by J3", "1: free p0", "J3: the pool, the table, the ring and each label exist",
+        "the number of instructions is 1", "an instruction with the number 1, from 0", "end the program with exit or jmp")),
+    # A row that bounds r1 by less than it is, and a dead row to which control comes.
+    Case("explain-one", f"set r1,5\n{PASS}", (SOLE, SOLE, NONE, SOLE, NONE), 1, explained(
+        "refused at 0 by J11", "1: set r1,5", J11, "r1 <= 5", "at 1: r1 <= 0", "let dpv infer write the certificate, or test for more before it")),
+    Case("explain-one", PASS, (SOLE, "00", SOLE, NONE), 1, explained(
+        "refused at 0 by J11", "1: tx p0,r0,d", J11, "control comes there", "at 1: that control never comes there",
+        "let dpv infer write the certificate, or test for more before it")),
     Case("explain-one", "\n tx  p0 ,r0,c # sent # out\r\nexit\na:\nb: c:free p0\nexit", (SOLE, NONE, ONE_BYTE, NONE), 1, explained(
         "refused at 0 by J11", "2: tx  p0 ,r0,c # sent # out", "J11: the facts after the instruction satisfy the row of each successor",
         "p0 sole, headroom 128, at most 1 segment", "at 2, a: p0 sole, headroom 128, first 1, at most 1 segment",
@@ -152,6 +174,28 @@ SHOWN = (
   7         exit           + p0 empty
   8  full:  free p0        + {ENTRY}
   9         exit           + p0 empty
+"""),
+    # An instruction after one that is never reached, of which all is said.
+    Case("show-one", "jmp a\nexit\na: free p0\nexit\n", (), 0, f"""port 0 accepted
+  0      jmp a    {ENTRY}; r0-r7 <= 0
+  1      exit     never reached
+  2  a:  free p0  {ENTRY}; r0-r7 <= 0
+  3      exit     + p0 empty
+"""),
+    # Numbers of two digits.
+    Case("show-one", "".join(f"set r{k},{k}\n" for k in range(1, 8)) + "set r1,0\n" + PASS, (), 0, f"""port 0 accepted
+   0      set r1,1    {ENTRY}; r0-r7 <= 0
+   1      set r2,2    + r1 <= 1
+   2      set r3,3    + r2 <= 2
+   3      set r4,4    + r3 <= 3
+   4      set r5,5    + r4 <= 4
+   5      set r6,6    + r5 <= 5
+   6      set r7,7    + r6 <= 6
+   7      set r1,0    + r7 <= 7
+   8      tx p0,r0,d  + r1 <= 0
+   9      exit        + p0 empty
+  10  d:  free p0     + {ENTRY}
+  11      exit        + p0 empty
 """),
     # Two labels in a line, and in lines of their own; blanks, tabs and carriage returns; a comment with a second # in it; no newline at the end.
     Case("show-one", LABELLED, (), 0, f"""port 0 accepted
@@ -303,6 +347,66 @@ def cost_cases(program: str, folder: pathlib.Path) -> list[bool]:
     return passed
 
 
+# A program that writes at an index, puts a clone into a ring and sends the rest, the program of the ring, and what a trace says of a packet of 16
+# bytes and of one of 17.
+WRITES = "set r1,15\nset r2,2\niflen p0,16,d\nstorex p0,r2,3,2,r1\nclone p1,p0,0,d\nenq p1,0,e\ntx p0,r0,d\nexit\ne: free p1\nd: free p0\nexit\n"
+BEFORE, AFTER = "00 01 02 03 04 05 06 07 08 09 0a 0b 0c 0d 0e 0f", "00 01 02 03 04 00 0f 07 08 09 0a 0b 0c 0d 0e 0f"
+
+
+def traced(number: int, size: int, before: str, after: str) -> str:
+    """What a trace says of a record of this size, whose first bytes these are, before and after the program wrote to it."""
+    shape = f"1 segment, {size} bytes, headroom 128, tailroom {2176 - 128 - size}"
+    return f"""record {number} port 0 time 1.000002000, {size} bytes
+      ethertype 0x0c0d
+port 0
+      allocation call {2 * number - 1}: made
+      p0: {shape}
+        {size} bytes: {before}
+   0  set r1,15
+      r1 = 15 (0xf)
+   1  set r2,2
+      r2 = 2
+   2  iflen p0,16,d
+   3  storex p0,r2,3,2,r1
+      p0: {shape}
+        {size} bytes: {after}
+      p0 at 5: 05 06 -> 00 0f
+   4  clone p1,p0,0,d
+      allocation call {2 * number}: made
+      p0: {shape}
+        {size} bytes, 2 references: {after}
+      p1: {shape}
+        {size} bytes, 2 references: {after}
+   5  enq p1,0,e
+      p1: none
+      ring 0: 1 waiting
+   6  tx p0,r0,d
+      p0: none
+      port 0 list: 1 queued
+   7  exit
+ring 0
+      p0: {shape}
+        {size} bytes, 2 references: {after}
+      ring 0: 0 waiting
+   0  free p0
+      p0: none
+   1  exit
+turn received runs 2 cuts 0 steps 10
+port 0 sends 1
+record {number}: sent to port 0 (port 0, 6), freed (ring 0, 0)
+"""
+
+
+def trace_cases(program: str, folder: pathlib.Path) -> list[bool]:
+    """What a trace says of two records."""
+    texts = {"writes.dpv": WRITES, "drop.dpv": "free p0\nexit\n", "trace.toml": costs(["pass.dpv"], ["drop.dpv"])[0].replace("pass", "writes").replace('"a"', '"in.pcap"')}
+    for name, text in texts.items():
+        (folder / name).write_text(text)
+    (folder / "in.pcap").write_bytes(capture(bytes(range(16)), bytes(range(17))))
+    said = traced(1, 16, BEFORE, AFTER) + traced(2, 17, f"{BEFORE} ..", f"{AFTER} ..")
+    return [is_said(program, folder, ["trace", "trace.toml"], 0, said, "")]
+
+
 def certificate(rows: tuple[str, ...]) -> str:
     """The text of a certificate whose rows begin so."""
     return "dpv-cert 1\n" + "".join(f"{row:0<306}\n" for row in rows)
@@ -339,7 +443,7 @@ def main() -> int:
         for name, text in files.items():
             (folder / name).write_text(text)
         passed += [is_said(program, folder, *case) for case in OF_PIPELINE]
-        passed += cost_cases(program, folder)
+        passed += cost_cases(program, folder) + trace_cases(program, folder)
     return report_cases("judged", passed)
 
 
