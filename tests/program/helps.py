@@ -4,8 +4,8 @@
 Usage: tests/program/helps.py [PROGRAM]   (the built program; by default the one that ./dpv builds and runs)
 Programs of one line, or a few, with each kind of mistake; a pipeline with every key, of which each in turn is missing or has a wrong value; and
 environments that are none. Then runs that lose packets in each way, at a port, ring and pool that is not the first: the notes, the
-places of --drops, the same numbers in the document of --json, and what a trace says of each record. Prints a line for each case that failed, and
-a count; exits with 1 if one failed.
+places of --drops, the same numbers in the document of --json, and what a trace says of each record. Then the counts of a run by lines and by names.
+Prints a line for each case that failed, and a count; exits with 1 if one failed.
 """
 import json
 import pathlib
@@ -40,6 +40,7 @@ PROGRAMS: list[tuple[bytes, int, int, str, str]] = [
     (b"// no\n", 1, 2, NAME, "a comment begins with #"),
     (b"exit\n; no\n", 2, 2, NAME, "a comment begins with #"),
     (b"qqqqqqqq\n", 1, 2, NAME, "there is no instruction 'qqqqqqqq'"),
+    (b"prepned p0,1\n", 1, 2, NAME, "there is no instruction 'prepned'; did you mean 'prepend'?"),
     (b"exit\nfree p0 \xc3\xbc\n", 2, 1, "there is a byte that no program has", "character 9 is not a printable ASCII character"),
     (b"a: free p0\nb: exit\na: exit\n", 3, 7, "the label was given before", "'a' is the label of line 1, too"),
     (b"a: a: exit\n", 1, 7, "the label was given before", "each label is given once"),
@@ -142,6 +143,9 @@ def keys() -> list[tuple[bytes, str]]:
 
 
 SEVEN = 6 * b"[[table]]\nrules = 4\ngroups = 1\nroutes = []\n"
+RING, PORT = (text_of([it for it in lines_of() if it[0] == part]) for part in ("ring", "port"))
+# How captures begin: in both byte orders, with microseconds and nanoseconds; and pcapng.
+MAGIC = [bytes.fromhex(it) for it in ("d4c3b2a1", "a1b2c3d4", "4d3cb2a1", "a1b23c4d", "0a0d0d0a")]
 # What of the pipeline with every key is replaced, the cause, the reason, the place, and what helps.
 CHANGED: list[tuple[bytes, bytes, str, str, str, str]] = [
     (b"[[pool]]", b"[pool]", "2 BadKey top 0", KEY, "", "'pool' has to be given by tables in double brackets, as [[port]]"),
@@ -157,7 +161,20 @@ CHANGED: list[tuple[bytes, bytes, str, str, str, str]] = [
     (b"[[table]]", SEVEN + b"[[table]]", "3 BadEnv 1 0", "there are too few or too many pools, tables, rings or ports", "",
      "pools are 1 to 8 (here 1), tables 0 to 4 (7), rings 0 to 8 (1), ports 1 to 8 (1)"),
     (b"region =", b"# \xfc\nregion =", "1 NotToml", "the text is not TOML", "", "a pipeline file is UTF-8"),
-    (b"region =", HEADER + b"region =", "1 NotToml", "the text is not TOML", "", "it is a capture: dpv filter PROGRAM it.toml OUT runs a program on it"),
+    *((b"region =", it + b"region =", "1 NotToml", "the text is not TOML", "", "it is a capture: dpv filter PROGRAM it.toml OUT runs a program on it") for it in [HEADER, *MAGIC]),
+    (b"region = 1048576", b"region = 4100", "2 BadKey top 0", KEY, ":1: region = 4100", f"'region' has to be {REGION}"),
+    # The first of two keys has its greatest value.
+    (b"rules = 4\ngroups = 1", b"rules = 65536\ngroups = -1", "2 BadKey table 0", KEY, ":8: groups = -1", f"'groups' has to be {whole(0, 256)}"),
+    (b"count = 8\nshare", b"count = 6\nshare", "3 BadEnv 3 0", "ring 0 is not within the limits", ":11: count = 6", f"'count' has to be {POWER}"),
+    (RING, SEVEN, "3 BadEnv 1 0", "there are too few or too many pools, tables, rings or ports", "", "pools are 1 to 8 (here 1), tables 0 to 4 (7), rings 0 to 8 (0), ports 1 to 8 (1)"),
+    # Blanks in a header, quotes around a key, and the second port.
+    (b"[[port]]\npool = 0", b"[[ port ]]\npool = 8", "3 BadEnv 4 0", "port 0 is not within the limits", ":21: pool = 8", f"'pool' has to be {whole(0, 7)}"),
+    (b"queue = 4", b'"queue" = -4', "2 BadKey port 0", KEY, ':23: "queue" = -4', f"'queue' has to be {POWER}"),
+    (PORT, PORT + PORT.replace(b"queue = 4", b"queue = 3"), "3 BadEnv 4 1", "port 1 is not within the limits", ":31: queue = 3", f"'queue' has to be {POWER}"),
+    # A word that is near to one key, which is there.
+    (b"queue = 4", b"queu = 4\nqueue = 4", "2 BadKey port 0", KEY, ":23: queu = 4", "there is no key 'queu' here"),
+    (b"routes = []", b"routes = [\n'10.0.0.0/8 1',\n'10.0.0.0/33 1',\n]", "4 BadTable 0 1 1", "the depth is not 1 to 32", ":11: '10.0.0.0/33 1',",
+     "route 1 is '10.0.0.0/33 1'; a route is A.B.C.D/DEPTH HOP, as 10.1.0.0/16 3: DEPTH 1 to 32, HOP at most 16777215"),
 ]
 
 
@@ -248,8 +265,74 @@ CAME = {"kept": [(0, 8), *(6 * [(1, 60)])], "lost": [*(2 * [(0, 60), (1, 100), (
 PICKED: list[tuple[str, list[str], list[int]]] = [
     ("kept", ["--only", "refused"], [6, 7]), ("kept", ["--only", "freed"], [1]), ("kept", ["--only", "6"], [6]), ("kept", ["--port", "1", "--records", "5"], [1, 2, 3, 4, 5]),
     ("lost", ["--only", "refused"], [2, 5, 7]), ("lost", ["--only", "cut"], [3, 6]), ("lost", ["--only", "sent", "--records", "3"], [1]),
+    ("kept", ["--refuse", "1", "--only", "refused"], [1, 6, 7]), ("lost", ["--match", "00@0"], [1, 3, 4, 6]),
     ("lost", ["--instr", "f0"], [1, 4]), ("lost", ["--instr", "9", "--port", "0"], [1, 2]), ("lost", ["--only", "freed", "--instr", "f1"], []),
 ]
+
+
+# Three ports, of which one has a list with one place and one a program that `dpv build` seems to have written, and a ring: with the counts of their
+# lines, names and drops. Short packets are those of less than 20 bytes.
+COUNTED = {
+    "two.dpv": "clone p1,p0,0,d # count in: all\niflen p0,20,two\ntx p0,r0,two # count try: the first\ntx p1,r0,one # count try: the second\nexit\n"
+               "two: free p0\none: free p1\nexit\nd: free p0\nexit\n",
+    "queue.dpv": "enq p0,0,d # count in: all\nexit\nd: free p0\nexit\n",
+    "built.dpv": "# Built from x.pkt by `dpv build`; docs/users/pkt.md has its language.\n"
+                 "iflen p0,20,d # 1: need eth\nset r1,1\ntx p0,r0,d # 2: send port\nexit\nd: free p0\nexit\n",
+    "ring.dpv": "iflen p0,20,d # count a b: this is no name\nset r1,1\nd: free p0\nexit\n",
+}
+COUNTS_OF = "region = 262144\n" + pool(16, WIDE) + ring(8, "ring.dpv") + port(0, 2, "two.dpv", 0) + port(0, 8, "queue.dpv", 1) + port(0, 8, "built.dpv", 2)
+COLUMNS = "      came      sent   dropped\n"
+BY_LINES = f"""port 0 two.dpv
+{COLUMNS}         5                      1: clone p1,p0,0,d # count in: all
+         5                   4  2: iflen p0,20,two
+         3         3            3: tx p0,r0,two # count try: the first
+         3                   3  4: tx p1,r0,one # count try: the second
+         0                      5: exit
+         2                      6: two: free p0
+         5                      7: one: free p1
+         5                      8: exit
+         0                      9: d: free p0
+         0                      10: exit
+port 1 queue.dpv
+{COLUMNS}         6         6            1: enq p0,0,d # count in: all
+         6                      2: exit
+         0                      3: d: free p0
+         0                      4: exit
+port 2 x.pkt
+{COLUMNS}         5                   2  1: need eth
+         3         3            2: send port
+ring 0 ring.dpv
+{COLUMNS}         6                   1  1: iflen p0,20,d # count a b: this is no name
+         5                      2: set r1,1
+         6                   5  3: d: free p0
+         6                      4: exit
+port 0 count in 5
+port 0 count try 6
+port 1 count in 6
+         5  ring 0 ring.dpv:3: d: free p0
+         4  port 0 two.dpv:2: iflen p0,20,two
+         3  port 0 two.dpv:4: tx p1,r0,one # count try: the second
+         2  port 2 x.pkt:1: need eth
+         1  ring 0 ring.dpv:1: iflen p0,20,d # count a b: this is no name
+"""
+
+
+def is_counted(program: str, folder: pathlib.Path) -> bool:
+    """Whether a run prints these counts by lines, names and drops, after its report."""
+    long, short = bytes(60), bytes(19)
+    inputs = [[long, short, long, short, long], [long, long, long, short, long, long], [short, short, long, long, long]]
+    (folder / "counted").mkdir()
+    texts = {"it.toml": COUNTS_OF, **COUNTED}
+    for name, text in texts.items():
+        (folder / "counted" / name).write_text(text)
+    for number, records in enumerate(inputs):
+        (folder / f"counted/in{number}.pcap").write_bytes(capture(*records))
+    run = subprocess.run([program, "run", "it.toml", "--source", "--drops"], cwd=folder / "counted", capture_output=True, text=True, timeout=60)
+    _, last, counts = run.stdout.partition("calls 21 refused 0\n")
+    passed = (run.returncode, counts, run.stderr) == (0, BY_LINES, "port 0: its transmit list was full 3 times when a packet came: raise its queue\n")
+    if not passed:
+        print(f"helps: counted: expected\n{BY_LINES}came\n{last}{run.stdout}{run.stderr}")
+    return passed
 
 
 def snapped(count: int) -> bytes:
@@ -342,6 +425,7 @@ def main() -> int:
         passed = [is_said(program, folder, ["infer-one", "node.dpv"], *case) for case in programs()]
         passed += [is_said(program, folder, ["check", "it.toml"], *case) for case in pipelines()]
         passed += runs(program, folder) + traces(program, folder)
+        passed.append(is_counted(program, folder))
     return report_cases("helps", passed)
 
 

@@ -489,7 +489,7 @@ def summaries(program: str, folder: pathlib.Path) -> list[tuple[str, bool]]:
         docs = [document(line + b"\n") for line in run(program, folder, *words, "--json", "--records", "99").out.splitlines()]
         cases += [(f"{words}: {said}", doc["summary"] == said) for doc, (_, said) in zip(docs, SUMMARIES, strict=False)]
         cases.append((f"{words}: all records", len(docs) == len(SUMMARIES) + 1))
-        for pattern, wanted in (("10.0.0.2", [3, 4, 5, 6, 7]), ("0a000002@30", [3, 4, 5]), ("0800@16", [6])):
+        for pattern, wanted in (("10.0.0.2", [3, 4, 5, 6, 7]), ("10.0.0.1", [*range(2, 8), *range(15, 25)]), ("0.0.0.0", []), ("0a:00:00:02@30", [3, 4, 5]), ("0800@16", [6])):
             made = run(program, folder, *words, "--match", pattern, "--json").out.splitlines()
             cases.append((f"{words} --match {pattern}", [json.loads(line).get("record") for line in made[:-1]] == wanted))
     (folder / "frames.pcap").write_bytes(capture(12 * [frames[3]]))

@@ -146,7 +146,7 @@ NO_HEADERS, WIRELESS = f"{HERE}: these records have no Ethernet headers", f"{HER
 LINKS = {
     **{int(name.split()[0]): (name, NO_HEADERS) for name in ("0 NULL", "9 PPP", "101 RAW", "108 LOOP", "228 IPV4", "229 IPV6")},
     **{int(name.split()[0]): (name, WIRELESS) for name in ("105 IEEE802_11", "127 IEEE802_11_RADIOTAP")},
-    **{int(name.split()[0]): (name, f"{IS_ETHERNET}; else {HERE}") for name in ("146", "147 USER", "162 USER")},
+    **{int(name.split()[0]): (name, f"{IS_ETHERNET}; else {HERE}") for name in ("146", "147 USER", "162 USER", "163")},
     113: ("113 LINUX_SLL", f"{IN_PLACE_OF_ANY}, or {HEADERS}"),
     276: ("276 LINUX_SLL2", IN_PLACE_OF_ANY),
 }
@@ -243,6 +243,7 @@ def cures() -> Iterator[Case]:
     run_it = "dpv filter a.pkt IN OUT runs it, and dpv build a.pkt > a.dpv compiles it for a pipeline"
     yield Case(["run", "a.pkt"], 3, helped(*text, "a.pkt", f"{IS_PKT}{run_it}"), is_whole=True)
     yield Case(["run", "strip.dpv"], 3, helped(*text, "strip.dpv", "it is a program: dpv filter strip.dpv IN OUT runs it, dpv explain-one strip.dpv judges it, and dpv show-one strip.dpv prints it"), is_whole=True)
+    yield Case(["filter", "sound.toml", "in.pcap", "out"], 3, helped(*word, "sound.toml", "it is a pipeline file: dpv run sound.toml runs it"), is_whole=True)
     yield Case(["run", "pkt_node.toml"], 3, helped(*word, "a.pkt", f"{IS_PKT}dpv build a.pkt > a.dpv compiles it"), is_whole=True)
 
 
@@ -386,10 +387,12 @@ def traces() -> Iterator[Case]:
     yield Case(["trace", "both.toml", "--instr", "nowhere"], 2, "error: no program has an instruction 'nowhere'\n")
     for word in ("sho", "short:", "Short"):
         yield Case(["trace-one", "strip.dpv", "strip.cert", "in.pcap", "--instr", word], 2, f"error: no program has an instruction '{word}'\n")
-    yield Case(["trace", "both.toml", "--instr", "1024"], 2, "error: no program has an instruction '1024'\n")
+    for number in ("4", "1024"):
+        yield Case(["trace", "both.toml", "--instr", number], 2, f"error: no program has an instruction '{number}'\n")
+    yield Case(["trace", "no_header.toml", "--only", "sent"], 3, of_input(0, 6, "short.pcap", "fewer than the 24 bytes of a header"))
     yield Case(["trace", "both.toml", "--port", "1", "--records", "1", "--only", "sent", "--instr", "0"], 0, "")
     yield Case(["trace", "both.toml", "--port", "1", "--records", "1"], 0, "")
-    for pattern in ("+10.0.0.1", "0800@+12", "10.0.0", "080@12"):
+    for pattern in ("+10.0.0.1", "0800@+12", "10.0.0", "080@12", "0:800@12", f"{17 * '00'}@0"):
         yield Case(["trace", "none", "--match", pattern], 2, f"error: '{pattern}' is neither an address A.B.C.D nor BYTES@OFFSET, as 0800@12\n")
     unmatched = "note: no record of the trace was selected\n"
     for more in (["--only", "99"], ["--match", "ff@60000"], ["--only", "99", "--json"]):
@@ -430,6 +433,11 @@ def drops() -> Iterator[Case]:
     yield Case(["filter", "forward.dpv", "widest.pcap", "out", "--room", "4096", "--segs", "64"], 0, "port 0: 1 record is longer than it takes (253952 bytes): no pipeline may have more\n")
     yield Case(["one", "strip.dpv", "strip.cert", "widest.pcap", "out"], 0, "port 0: 1 record is longer than it takes (2048 bytes): a pipeline file may give more\n")
     yield Case(["run", "both.toml", "--refuse", "1"], 0, "port 0: 1 record got no buffers: --refuse refused 1 call\n")
+    refused = "1 record got no buffers: --refuse refused 2 calls\n"
+    yield Case(["run", "both.toml", "--refuse", "1,2"], 0, f"port 0: {refused}port 1: {refused}")
+    for name, said in (("full", "port 0: its transmit list was full 1 time when a packet came"), ("empty", "pool 0: alloc or clone got no buffers 1 time")):
+        yield Case(["filter", f"{name}.dpv", "one.pcap", "out"], 0, f"{said}: a pipeline file may give more\n")
+    yield Case(["run", "empty.toml"], 0, "pool 0: alloc or clone got no buffers 1 time: raise the count of pool 0\n")
     left = "a turn runs 32 packets from rings at most; let programs put fewer into rings for each record"
     yield Case(["run", "looped.toml"], 0, f"ring 0: 1 packet was left at the end: {left}\n")
     cut = "it took more than 256 backward jumps, and its packets were freed; --counts shows which loop"
@@ -467,6 +475,7 @@ def make_more(folder: pathlib.Path) -> None:
         "narrow": run_of(["wide.pcap"], ["out0"]).replace("room = 2176", "room = 192"),
         "looped": pipeline(["loop.dpv"], ["loop.dpv"]).replace('in = "none"', 'in = "one.pcap"').replace('out = "none/none"', 'out = "out0"'),
         "endless": run_of(["one.pcap"], ["out0"]).replace("forward.dpv", "endless.dpv"),
+        "empty": run_of(["one.pcap"], ["out0"], 262144).replace("forward.dpv", "empty.dpv").replace("count = 4", "count = 64"),
         "ring_unfit": pipeline(["strip.dpv strip.cert"], ["lost6.dpv strip.cert"]),
         "bare": pipeline(["bare.dpv in.pcap"]),
         "capital_pool": pipeline(["strip.dpv"]).replace("[[pool]]", "[[POOL]]"),
@@ -500,6 +509,9 @@ def make_more(folder: pathlib.Path) -> None:
         "lost6.dpv": 6 * b"exit\n",
         "loop.dpv": b"enq p0,0,d\nexit\nd: free p0\nexit\n",
         "endless.dpv": b"a: jmp a\n",
+        # The list of a port has 31 places, and its pool 64 buffers; one is that of the record.
+        "full.dpv": 32 * b"clone p1,p0,0,d\ntx p1,r0,f\n" + b"free p0\nexit\nf: free p1\nd: free p0\nexit\n",
+        "empty.dpv": 63 * b"alloc p1,0,d\nchain p0,p1\n" + b"alloc p1,0,d\nfree p1\nd: free p0\nexit\n",
         "wide.pcap": capture(bytes(100)),
         "widest.pcap": capture(bytes(262_144)),
         **MORE,
