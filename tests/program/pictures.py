@@ -7,7 +7,8 @@ one to a port at least; the picture of each program has each instruction once, i
 box to which it jumps, with the numbers of a document of counts, both joined and, with `--calls`, by basic blocks; all are accepted by
 `dot -Tsvg`, if graphviz is installed. And the table of `dpv check FILE --sizes`
 has the bytes that are computed here from the pipeline file. Programs of examples/refused are red where they are refused. Words and documents
-that cannot be drawn are reported as faults. Prints a line for each that failed, and a count; exits with 1 if one failed.
+that cannot be drawn are reported as faults. Then a pipeline and a program whose boxes and arrows are given here line by line: the numbers in the
+boxes, what is never reached, what is refused, and how wide arrows are. Prints a line for each that failed, and a count; exits with 1 if one failed.
 """
 import html
 import json
@@ -266,6 +267,67 @@ def is_refused(program: str, words: list[str], status: int, reported: str) -> bo
     return passed
 
 
+# A pipeline. Of the programs of its ports the first has instructions that are never reached, the second can send to the first two ports, and the third
+# clones; that of the ring is refused.
+SMALL = {
+    "small.toml": "region = 262144\n[[pool]]\ncount = 8\ncache = 0\nroom = 2176\n[[pool]]\ncount = 4\ncache = 0\nroom = 192\n"
+                  "[[table]]\nrules = 1\ngroups = 0\nroutes = []\n"
+                  '[[ring]]\ncount = 8\nshare = 0\nhead = 0\ntail = 0\nfirst = 0\nlast = 0\nsegs = 1\nnode = "lost.dpv"\n'
+                  + "".join(f'[[port]]\npool = {pool}\nsegs = 1\nqueue = {queue}\nnode = "{node}"\nin = "a"\nout = "b{queue}"\n'
+                            for pool, queue, node in ((0, 16, "dead.dpv"), (1, 32, "send.dpv"), (0, 64, "clone.dpv"))),
+    "dead.dpv": "lookup r1,0,r2,d\nenq p0,0,d\nexit\nalloc p1,1,e\ne: exit\nd: free p0\nexit\n",
+    "send.dpv": "tx p0,r0,d\nexit\nd: free p0\nexit\n",
+    "clone.dpv": "clone p1,p0,1,d\nfree p1\nd: free p0\nexit\n",
+    "lost.dpv": "exit\n",
+}
+ROUNDED = "[style=rounded, label=<<B>"
+# The lines of its picture that have a box or an arrow.
+SMALL_LINES = {
+    *(f'{{ rank=source; in{k} [shape=cds, label="port {k} in\\npool {pool}"]; }}' for k, pool in ((0, 0), (1, 1), (2, 0))),
+    *(f'{{ rank=sink; out{k} [shape=cds, label="port {k} out\\nlist of {queue}"]; }}' for k, queue in ((0, 16), (1, 32), (2, 64))),
+    'ring0 [shape=ellipse, label="ring 0\\n8 slots"];',
+    'pool0 [shape=cylinder, label="pool 0\\n8 buffers\\nroom 2176"];',
+    'pool1 [shape=cylinder, label="pool 1\\n4 buffers\\nroom 192"];',
+    'table0 [shape=note, label="table 0"];',
+    f"program_port0 {ROUNDED}dead.dpv</B><BR/>port 0 accepted<BR/>7 instructions>];",
+    f"program_port1 {ROUNDED}send.dpv</B><BR/>port 1 accepted<BR/>4 instructions>];",
+    f"program_port2 {ROUNDED}clone.dpv</B><BR/>port 2 accepted<BR/>4 instructions>];",
+    f"program_ring0 {ROUNDED}lost.dpv</B><BR/>ring 0 not inferred at 0 by J10<BR/>1 instruction>, color=red, penwidth=2];",
+    *(f"in{k} -> program_port{k};" for k in range(3)), "ring0 -> program_ring0;",
+    "program_port0 -> ring0;", "program_port0 -> table0 [style=dotted];", "program_port1 -> out0;", "program_port1 -> out1;",
+    "program_port2 -> pool1 [style=dotted];",
+}
+# A program with an instruction that is never reached, and one whose arrows are counted: of 2^20 packets none, 2^10 or all.
+DEAD = "jmp a\nexit\na: free\tp0 # a\t<b> & \"c\"\nexit\n"
+KNOWN, EMPTY = 'p0 sole, headroom 128, at most 1 segment<BR ALIGN="LEFT"/>', 'r0-r7 &lt;= 0<BR ALIGN="LEFT"/>'
+ARROWS = {("0", "1", "solid", "1048576", "8.0"), ("0", "3", "dashed", "0", "1.0"), ("1", "3", "dashed", "1024", "4.5")}
+COUNTED = [("1048576", 0), ("1048576", 1024), ("1047552", None), ("1024", None), ("1024", None)]
+
+
+def are_small(program: str, folder: pathlib.Path) -> list[bool]:
+    """Whether the pictures of these programs have what they should."""
+    for name, text in {**SMALL, "node.dpv": DEAD, "one.dpv": "iflen p0,14,d\n" + SMALL["send.dpv"]}.items():
+        (folder / name).write_text(text)
+    steps = [{"label": k, "ran": ran, "taken": taken} for k, (ran, taken) in enumerate(COUNTED)]
+    (folder / "counts.json").write_text(json.dumps({"counts": {"nodes": [{"node": "port 0", "instructions": steps}]}}))
+    (folder / "one.toml").write_text(SMALL["small.toml"].replace("dead.dpv", "one.dpv"))
+    drawn = run(program, ["show", "small.toml", "--dot"], folder)
+    lines = {line.strip() for line in drawn[1].splitlines() if re.match(r"  (?:\{|(?:in|out|ring|pool|table|program_\w+)\d )", line)}
+    dead = run(program, ["show-one", "node.dpv", "--dot"], folder)[1]
+    boxes = {first: (known, end) for first, known, end in re.findall(r'^  L(\d) \[label=.*?<FONT POINT-SIZE="11">(.*?)</FONT>.*?</TABLE>>(.*?)\];$', dead, re.M | re.S)}
+    counted = run(program, ["show", "one.toml", "port0", "--dot", "--calls", "--counts", "counts.json"], folder)[1]
+    arrows = re.findall(r'^  L(\d+) -> L(\d+) \[style=(\w+), label=" (\d+)", penwidth=([1-8]\.\d)\];$', counted, re.M)
+    passed = {
+        f"the pipeline: {drawn[0]}, {sorted(lines ^ SMALL_LINES)}": (drawn[0], drawn[2], lines) == (1, "", SMALL_LINES) and is_drawn(drawn[1]),
+        f"boxes: {boxes}": boxes == {"0": (KNOWN + EMPTY, ""), "1": ('never reached<BR ALIGN="LEFT"/>', ", color=grey, fontcolor=grey"), "2": (KNOWN + EMPTY, "")},
+        f"a comment: {dead}": "&#160; free p0</TD>" in dead and "># a &lt;b&gt; &amp; &quot;c&quot;</FONT>" in dead and is_drawn(dead),
+        f"widths: {arrows}": ARROWS < set(arrows) and len(arrows) == 4,
+    }
+    for what in (what for what, is_so in passed.items() if not is_so):
+        print(f"small pictures: {what}")
+    return [*passed.values()]
+
+
 def is_page(program: str) -> bool:
     """Whether docs/users/pictures.md has the sizes of examples/router as they are printed, and its pictures are there."""
     page = (TOP / "docs" / "users" / "pictures.md").read_text()
@@ -285,6 +347,7 @@ def main() -> int:
         passed = [is_example(program, file, folder) for file in files]
         passed += [is_red(program, number) for number in range(2, 12)]
         passed += [is_refused(program, *case) for case in faults(folder)]
+        passed += are_small(program, folder)
         passed.append(is_page(program))
     word = "" if DOT else "; graphviz is not installed, so nothing was drawn"
     print(f"pictures: {sum(passed)} are as they should be, {len(passed) - sum(passed)} are not{word}")
