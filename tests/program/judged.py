@@ -117,6 +117,21 @@ EXPLAINED = (
     Case("explain-one", "free p0\n", (), 1, explained(
         "not inferred at 0 by J3", "1: free p0", "J3: the pool, the table, the ring and each label exist",
         "the number of instructions is 1", "an instruction with the number 1, from 0", "end the program with exit or jmp")),
+    # Registers other than p0.
+    Case("explain-one", "alloc p1,0,d\nadj p1,4\nfree p1\nd: free p0\nexit\n", (), 1, explained(
+        "not inferred at 1 by J6", "2: adj p1,4", J6, "p1 first 0", "p1 first 4", "iflen p1,4,L before it")),
+    Case("explain-one", "free p2\nfree p0\nexit\n", (), 1, explained(
+        "not inferred at 0 by J4", "1: free p2", "J4: each packet register that is used holds a packet",
+        "p2 empty", "a packet in p2", "put a packet into p2 before it, by alloc or clone")),
+    Case("explain-one", "clone p1,p0,0,d\nalloc p1,0,e\ne: free p1\nd: free p0\nexit\n", (), 1, explained(
+        "not inferred at 1 by J5", "2: alloc p1,0,e", "J5: the target of alloc and clone is empty, and those of chain differ",
+        "p1 in group p0, headroom 128, at most 1 segment", "p1 empty", "free p1 before it, or take another register")),
+    Case("explain-one", "clone p1,p0,0,d\nfree p0\nexit\nd: free p0\nexit\n", (), 1, explained(
+        "not inferred at 2 by J10", "3: exit", "J10: at exit no register holds a packet",
+        "p1 sole, headroom 128, at most 1 segment", "p1 empty", "free p1 before it")),
+    Case("explain-one", "alloc p1,0,a\na: free p0\nexit\n", (), 1, explained(
+        "not inferred at 0 by J11", "1: alloc p1,0,a", J11, "p1 sole, headroom 128, tailroom 2048, at most 1 segment", "at 1, a: p1 empty",
+        "free p1 before control goes there, or let this path end with exit: another path arrives with p1 empty")),
     # A row that bounds r1 by less than it is, and a dead row to which control comes.
     Case("explain-one", f"set r1,5\n{PASS}", (SOLE, SOLE, NONE, SOLE, NONE), 1, explained(
         "refused at 0 by J11", "1: set r1,5", J11, "r1 <= 5", "at 1: r1 <= 0", "let dpv infer write the certificate, or test for more before it")),
@@ -397,14 +412,29 @@ record {number}: sent to port 0 (port 0, 6), freed (ring 0, 0)
 """
 
 
+def is_built(program: str, folder: pathlib.Path) -> bool:
+    """Whether the help for a program that `dpv build` seems to have written has the segments of its own port."""
+    first, second = costs(["pass.dpv", "pass.dpv"], [])[0].rsplit("[[port]]", 1)
+    (folder / "built.toml").write_text(f"{first}[[port]]{second.replace('segs = 1', 'segs = 5').replace('pass', 'built')}")
+    (folder / "built.dpv").write_text(f"# Built from x.pkt by `dpv build`.\nadj p0,14\n{PASS}")
+    cure = "write segments 5 in its source, as the port takes packets of 5 segments, and build it again"
+    said = explained("not inferred at 0 by J6", "2: adj p0,14", J6, "p0 first 0", "p0 first 14", cure).replace("port 0", "port 1").replace("node.dpv", "built.dpv")
+    return is_said(program, folder, ["explain", "built.toml", "port1"], 1, said, "")
+
+
 def trace_cases(program: str, folder: pathlib.Path) -> list[bool]:
-    """What a trace says of two records."""
+    """What a trace says of two records, and of the first if there is no buffer for its clone."""
     texts = {"writes.dpv": WRITES, "drop.dpv": "free p0\nexit\n", "trace.toml": costs(["pass.dpv"], ["drop.dpv"])[0].replace("pass", "writes").replace('"a"', '"in.pcap"')}
     for name, text in texts.items():
         (folder / name).write_text(text)
     (folder / "in.pcap").write_bytes(capture(bytes(range(16)), bytes(range(17))))
     said = traced(1, 16, BEFORE, AFTER) + traced(2, 17, f"{BEFORE} ..", f"{AFTER} ..")
-    return [is_said(program, folder, ["trace", "trace.toml"], 0, said, "")]
+    first, clone, _ = traced(1, 16, BEFORE, AFTER).partition("   4  clone p1,p0,0,d\n")
+    refused = f"{first}{clone}      allocation call 2: refused\n   9  d: free p0\n      p0: none\n  10  exit\nturn received runs 1 cuts 0 steps 7\nrecord 1: freed (port 0, 9)\n"
+    return [
+        is_said(program, folder, ["trace", "trace.toml"], 0, said, ""),
+        is_said(program, folder, ["trace", "trace.toml", "--records", "1", "--refuse", "2"], 0, refused, ""),
+    ]
 
 
 def certificate(rows: tuple[str, ...]) -> str:
@@ -443,6 +473,7 @@ def main() -> int:
         for name, text in files.items():
             (folder / name).write_text(text)
         passed += [is_said(program, folder, *case) for case in OF_PIPELINE]
+        passed.append(is_built(program, folder))
         passed += cost_cases(program, folder) + trace_cases(program, folder)
     return report_cases("judged", passed)
 
