@@ -393,6 +393,19 @@ def largest_cases(program: str, folder: pathlib.Path) -> list[bool]:
     ]
 
 
+# What help says of numbers, which are those of docs/reference/reports.md.
+HELPS = {"filter": ("from 129 to 4096, else 2176", "from 1 to 64, else 1\n"), "trace": ("from 1 on; else 10, or all with --only, --instr or --match",)}
+
+
+def shows_numbers(program: str, command: str, folder: pathlib.Path) -> bool:
+    """Whether the help of a command has its numbers."""
+    shown = subprocess.run([program, command, "--help"], cwd=folder, capture_output=True, text=True, timeout=60).stdout
+    missing = [it for it in HELPS[command] if it not in shown]
+    for it in missing:
+        print(f"dpv {command} --help does not say {it!r}: {shown}")
+    return not missing
+
+
 def shows_usage(program: str, words: list[str], status: int, folder: pathlib.Path) -> bool:
     """Whether help goes to standard output with status 0, and a fault of the words to standard error with status 2."""
     run = subprocess.run([program, *words], cwd=folder, capture_output=True, text=True, timeout=60)
@@ -430,6 +443,7 @@ def main() -> int:
         make_files(folder)
         right = (["help"], ["--help"], ["one", "--help"], ["check", "--help"], ["infer", "--help"], ["run", "--help"], ["--version"])
         passed = [shows_usage(program, list(words), 0, folder) for words in right]
+        passed += [shows_numbers(program, command, folder) for command in HELPS]
         wrong = ([], ["two"], ["one"], ["one", *strip[1:]], ["one", *strip, "more"], ["one", "--fast", *strip], ["mem"])
         passed += [shows_usage(program, list(words), 2, folder) for words in wrong]
         wrong = (["check"], ["check", "none", "more"], ["infer", "none"], ["infer", "none", "port0", "more"])

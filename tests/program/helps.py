@@ -40,6 +40,7 @@ PROGRAMS: list[tuple[bytes, int, int, str, str]] = [
     (b"// no\n", 1, 2, NAME, "a comment begins with #"),
     (b"exit\n; no\n", 2, 2, NAME, "a comment begins with #"),
     (b"qqqqqqqq\n", 1, 2, NAME, "there is no instruction 'qqqqqqqq'"),
+    (b"x\n", 1, 2, NAME, "there is no instruction 'x'"),
     (b"prepned p0,1\n", 1, 2, NAME, "there is no instruction 'prepned'; did you mean 'prepend'?"),
     (b"exit\nfree p0 \xc3\xbc\n", 2, 1, "there is a byte that no program has", "character 9 is not a printable ASCII character"),
     (b"a: free p0\nb: exit\na: exit\n", 3, 7, "the label was given before", "'a' is the label of line 1, too"),
@@ -167,6 +168,8 @@ CHANGED: list[tuple[bytes, bytes, str, str, str, str]] = [
     (b"rules = 4\ngroups = 1", b"rules = 65536\ngroups = -1", "2 BadKey table 0", KEY, ":8: groups = -1", f"'groups' has to be {whole(0, 256)}"),
     (b"count = 8\nshare", b"count = 6\nshare", "3 BadEnv 3 0", "ring 0 is not within the limits", ":11: count = 6", f"'count' has to be {POWER}"),
     (RING, SEVEN, "3 BadEnv 1 0", "there are too few or too many pools, tables, rings or ports", "", "pools are 1 to 8 (here 1), tables 0 to 4 (7), rings 0 to 8 (0), ports 1 to 8 (1)"),
+    (b"[[pool]]\ncount = 8\ncache = 0\nroom = 2176", b"pool = [1]", "2 BadKey top 0", KEY, ":2: pool = [1]", "'pool' has to be given by tables in double brackets, as [[port]]"),
+    (b"routes = []", b"routes = [1]", "2 BadKey table 0", KEY, ":9: routes = [1]", f"'routes' has to be {PARTS['table']['routes'][1]}"),
     # Blanks in a header, quotes around a key, and the second port.
     (b"[[port]]\npool = 0", b"[[ port ]]\npool = 8", "3 BadEnv 4 0", "port 0 is not within the limits", ":21: pool = 8", f"'pool' has to be {whole(0, 7)}"),
     (b"queue = 4", b'"queue" = -4', "2 BadKey port 0", KEY, ':23: "queue" = -4', f"'queue' has to be {POWER}"),
@@ -355,7 +358,8 @@ def put_runs(folder: pathlib.Path) -> None:
 
 
 def has_no_room(program: str, folder: pathlib.Path) -> bool:
-    """Whether a run whose region is too small says how large one is large enough: one with that goes, and one with 64 bytes less does not."""
+    """Whether a run whose region is too small says how large one is large enough: one with that goes, and one with 64 bytes less does not; and
+    whether --sizes says how much is missing."""
     need = Env([Pool(8, 0, WIDE), Pool(4, 0, WIDE)], [], [Ring(2, ()), Ring(8, ())], [Port(0, 1, 4), Port(1, 1, 4)]).need()
     least = -(-need // 64) * 64
     parts = "(dpv check FILE --sizes shows the parts)"
@@ -365,9 +369,12 @@ def has_no_room(program: str, folder: pathlib.Path) -> bool:
         (folder / "kept/small.toml").write_text(KEPT.replace("262144", str(region)))
         run = subprocess.run([program, "run", "small.toml"], cwd=folder / "kept", capture_output=True, text=True, timeout=60)
         found.append((run.returncode, run.stderr))
-    if found != wanted:
-        print(f"helps: no room: expected {wanted}, came {found}")
-    return found == wanted
+    (folder / "kept/small.toml").write_text(KEPT.replace("262144", "4096"))
+    sizes = subprocess.run([program, "check", "small.toml", "--sizes"], cwd=folder / "kept", capture_output=True, text=True, timeout=60).stdout
+    passed = found == wanted and sizes.endswith(f"\n{'sum':42}{need:>12}\n{'region':42}{4096:>12}\n{'missing':42}{need - 4096:>12}\n")
+    if not passed:
+        print(f"helps: no room: expected {wanted}, came {found}, and {need - 4096} missing:\n{sizes}")
+    return passed
 
 
 def places_in(doc: dict[str, list[dict[str, object]]]) -> list[tuple[object, object, object, object]]:

@@ -81,6 +81,10 @@ SUMMARIES = (
     ("88cc", "ethertype 0x88cc"),
     *((f"0800 {OTHER.replace('4011', f'40{number:02x}')} 0007 0009", f"IP 10.0.0.1 > 10.0.0.3 {said}") for number, said in PROTOCOLS.items()),
     *((f"86dd 60000000 0004{number:02x}40 {IPV6} 0007 0009", f"IP6 2001:db8:0:0:0:0:0:1 > fe80:0:0:a:0:0:0:ff02 {said}") for number, said in PROTOCOLS.items()),
+    # A tag with a priority, a header with options, and the first of several fragments.
+    ("8100 a005 0806", "vlan 5 ARP"),
+    (f"0800 {OTHER.replace('4500', '4600')} 01010101 0007 0009", "IP 10.0.0.1 > 10.0.0.3 UDP 7 > 9"),
+    (f"0800 {OTHER.replace('0000 4011', '2000 4011')} 0007 0009", "IP 10.0.0.1 > 10.0.0.3 UDP 7 > 9"),
 )
 
 
@@ -489,7 +493,7 @@ def summaries(program: str, folder: pathlib.Path) -> list[tuple[str, bool]]:
         docs = [document(line + b"\n") for line in run(program, folder, *words, "--json", "--records", "99").out.splitlines()]
         cases += [(f"{words}: {said}", doc["summary"] == said) for doc, (_, said) in zip(docs, SUMMARIES, strict=False)]
         cases.append((f"{words}: all records", len(docs) == len(SUMMARIES) + 1))
-        for pattern, wanted in (("10.0.0.2", [3, 4, 5, 6, 7]), ("10.0.0.1", [*range(2, 8), *range(15, 25)]), ("0.0.0.0", []), ("0a:00:00:02@30", [3, 4, 5]), ("0800@16", [6])):
+        for pattern, wanted in (("10.0.0.2", [3, 4, 5, 6, 7]), ("10.0.0.1", [*range(2, 8), *range(15, 25), 36, 37]), ("0.0.0.0", []), ("0a:00:00:02@30", [3, 4, 5]), ("0800@16", [6])):
             made = run(program, folder, *words, "--match", pattern, "--json").out.splitlines()
             cases.append((f"{words} --match {pattern}", [json.loads(line).get("record") for line in made[:-1]] == wanted))
     (folder / "frames.pcap").write_bytes(capture(12 * [frames[3]]))
