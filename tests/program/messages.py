@@ -304,6 +304,7 @@ def in_folders() -> Iterator[Case]:
     for command in ("check", "run", "trace", "explain"):
         yield Case([command, "beside/program.toml"], 3, program + cure, is_whole=True)
         yield Case([command, "beside/cert.toml"], 3, certificate + cure, is_whole=True)
+        yield Case([command, "beside/dir.toml"], 3, node("port 0", "its.dir", missing), is_whole=True)
         yield Case([command, "beside/nowhere.toml"], 3, node("port 0", "none", missing), is_whole=True)
     for command in ("run", "trace"):
         yield Case([command, "beside/capture.toml"], 3, capture_of + cure, is_whole=True)
@@ -352,6 +353,7 @@ def same_files() -> Iterator[Case]:
     yield strips("soft.pcap", "kept.pcap", clash("kept.pcap", "soft.pcap"))
     yield strips("/dev/stdin", "kept.pcap", clash("kept.pcap", "/dev/stdin"))
     yield Case(["run", "crossed.toml"], 3, clash("kept.pcap", "kept.pcap"))
+    yield Case(["run", "own_routes.toml", "--routes", "0=kept.txt"], 3, clash("kept.txt", "kept.txt"))
 
 
 def no_text() -> Iterator[Case]:
@@ -431,6 +433,7 @@ def drops() -> Iterator[Case]:
     yield Case([*filtered, "--room", "192"], 0, "port 0: 1 record is longer than it takes (64 bytes): raise --segs or --room\n")
     yield Case([*filtered, "--room", "192", "--segs", "2"], 0, "")
     yield Case(["filter", "forward.dpv", "widest.pcap", "out", "--room", "4096", "--segs", "64"], 0, "port 0: 1 record is longer than it takes (253952 bytes): no pipeline may have more\n")
+    yield Case([*filtered[:2], "widest.pcap", "out", "--room", "4096"], 0, "port 0: 1 record is longer than it takes (3968 bytes): raise --segs or --room\n")
     yield Case(["one", "strip.dpv", "strip.cert", "widest.pcap", "out"], 0, "port 0: 1 record is longer than it takes (2048 bytes): a pipeline file may give more\n")
     yield Case(["run", "both.toml", "--refuse", "1"], 0, "port 0: 1 record got no buffers: --refuse refused 1 call\n")
     refused = "1 record got no buffers: --refuse refused 2 calls\n"
@@ -483,7 +486,9 @@ def make_more(folder: pathlib.Path) -> None:
         "pkt_node": pipeline(["a.pkt"]),
         "beside/program": pipeline(["its.dpv"]),
         "beside/cert": pipeline(["strip.dpv its.cert"]),
+        "beside/dir": pipeline(["its.dir"]),
         "beside/nowhere": pipeline(["none"]),
+        "own_routes": run_of(["one.pcap"], ["kept.txt"]) + table.replace('"{}"', ""),
         "beside/capture": run_of(["its.pcap"], ["out0"]),
     }
     data = {
@@ -524,7 +529,7 @@ def make_more(folder: pathlib.Path) -> None:
     for name, (rules, groups, routes) in TABLES.items():
         lines = "".join(f'    "{it}",\n' for it in routes)
         texts[f"{name}_full"] = pipeline(["none"], table=f"[[table]]\nrules = {rules}\ngroups = {groups}\nroutes = [\n{lines}]\n")
-    (folder / "beside").mkdir()
+    (folder / "beside/its.dir").mkdir(parents=True)
     for name, text in texts.items():
         (folder / f"{name}.toml").write_text(text)
     for name, bytes_of in data.items():
