@@ -394,7 +394,7 @@ def largest_cases(program: str, folder: pathlib.Path) -> list[bool]:
 
 
 # What help says of numbers, which are those of docs/reference/reports.md.
-HELPS = {"filter": ("from 129 to 4096, else 2176", "from 1 to 64, else 1\n"), "trace": ("from 1 on; else 10, or all with --only, --instr or --match",)}
+HELPS = {"filter": ("from 129 to 4096, 2176 by default", "from 1 to 64, 1 by default\n"), "trace": ("from 1 on; else 10, or all with --only, --instr or --match",)}
 
 
 def shows_numbers(program: str, command: str, folder: pathlib.Path) -> bool:
