@@ -71,8 +71,8 @@ def followers(headers: dict[str, Header]) -> dict[str, frozenset[str]]:
 def written(header: Header, values: dict[str, int | None], asked: dict[str, int]) -> list[int]:
     """The bytes of a pushed header: a field without a value is what the next header asks for, or its default."""
     data, summed = [0] * header.size, []
-    given = {name: asked.get(name, bits.default) for name, bits in header.fields.items() if not bits.is_alias or name in asked}
-    for name, value in (*[it for it in given.items() if it[0] not in values], *values.items()):
+    given = {name: bits.default for name, bits in header.fields.items() if not bits.is_alias and name not in asked}
+    for name, value in (*[it for it in (given | asked).items() if it[0] not in values], *values.items()):
         bits: Bits = header.fields[name]
         if value is None:
             summed.append(bits)

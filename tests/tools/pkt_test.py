@@ -445,6 +445,9 @@ class Slips(unittest.TestCase):
          "header h { a:8 type:16 } after eth if eth.type == 5 next type\nsend port"),
         ("header h { a:16 b:16 } after eth if eth.type in {5, 6} next b\nsend port", "1:37: a tag follows eth", "after eth if eth.type == 0x8100, with no `or`",
          "header h { a:16 b:16 } after eth if eth.type == 0x8100 next b\nsend port"),
+        ("header g { v:8 b:8 } after eth if eth.type == 5 length v * 2 for v:8 in 1..3\nheader h { a:8 c:8 } after g if g.b == 6 next c\nsend port",
+         "2:33: a tag follows g, whose length varies", "leave `next` out",
+         "header g { v:8 b:8 } after eth if eth.type == 5 length v * 2 for v:8 in 1..3\nheader h { a:8 c:8 } after g if g.b == 6\nsend port"),
         ("header h { a:16 b:16 } after ipv4 if ipv4.proto == 5 next b\nsend port", "1:38: a tag follows ipv4", "leave `next` out",
          "header h { a:16 b:16 } after ipv4 if ipv4.proto == 5\nsend port"),
         ("header h { a:8 b:128 } after eth if eth.type == 5 sum b\nsend port", "1:55: b has 128 bits", "b_hi and b_lo are its halves",
@@ -1151,6 +1154,33 @@ if options6 {}
         self.both(begin + "if tcp.dport == 22 { mend tcp.dport = 7 }\nsend port", frames,
                   [frame(k, 7 if dport == 22 and k < 5 else dport) for k in range(-1, 6) for dport in (22, 23)])
         self.both(begin + "need ipv6\nmend ipv6.src_lo = 0xff\nsend port", frames, [frame(k, dport, 255) for k in range(-1, 6) for dport in (22, 23)])
+
+    def test_mend_where_tcp_comes_after_ipv6(self) -> None:
+        """Both headers are found, as the type changes between, and TCP follows the one that begins last. It is looked for before the checksum of
+        IPv4 is updated, which has the bits of `ipv6.next` here."""
+        source = "if ipv4 {}\neth.type = 0x8100\nif vlan {}\nif ipv6 {}\nmend ipv4.src = 1.2.3.4\nsend port"
+        head = struct.pack(">BBHHHBBH", 0x45, 0, 0x86DD, 0, 0, 64, 17, 0x0605) + bytes([10, 0, 0, 1, 10, 0, 0, 2])
+        frame = eth(head + bytes(range(100)))
+        more = 0x0102 + 0x0304 + 0xFFFF - 0x0A00 + 0xFFFF - 0x0001
+        wanted = bytearray(frame)
+        wanted[12:14], wanted[26:30] = b"\x81\0", bytes([1, 2, 3, 4])
+        for at in (24, 74):
+            total = 0xFFFF - int.from_bytes(frame[at : at + 2], "big") + more
+            while total >> 16:
+                total = (total & 0xFFFF) + (total >> 16)
+            wanted[at : at + 2] = struct.pack(">H", 0xFFFF - total)
+        self.both(source, [frame], [bytes(wanted)])
+
+    def test_what_the_next_header_asks_of_a_pushed_one(self) -> None:
+        """A constant may stand before the field; the field may be a second name of others, or one with a checksum."""
+        frame = eth(b"")
+        for declared, pushed, wanted in (
+            ("header g { a:8 b:8 } header h { x:8 } after g if 5 == g.b", "push g { a = 1 } h { x = 3 }", b"\1\5\3"),
+            ("header g { a:8=0x21 b:8 c@4:8 } header h { x:8 } after g if g.c == 0x56", "push g { } h { x = 3 }", b"\x25\x60\3"),
+            ("header g { a:16=auto b:16 } header h { x:8 } after g if g.a == 5", "push g { b = 1 } h { x = 3 }", b"\0\5\0\1\3"),
+        ):
+            with self.subTest(declared):
+                self.both(f"{declared}\n{pushed}\nsend port", [frame], [wanted + frame])
 
     def test_two_tags_and_their_priorities(self) -> None:
         inner = eth(ipv4(17, bytes(8)))

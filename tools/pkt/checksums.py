@@ -41,7 +41,7 @@ def do_mend(way: Way, it: Mend, after: Join[Way], _: Join[Way]) -> None:
     if is_nested:
         return cover_nested(way, own.name, names, over, needs, after)
     absent = Join[Way](needs)
-    ways = [(s, [name]) for s, name in conditions.first_of(way, over, absent, needs)] if way.unit.decides(own, over) else [(way, over)]
+    ways = [(s, [name]) for s, name in conditions.first_of(way, over, absent, needs)] if way.unit.decides(own, over, way.found) else [(way, over)]
     for s, left in [*ways, *((s, list[str]()) for s in absent.begin())]:
         update_plain(s, own.name, names, left, needs, after)
 

@@ -359,7 +359,8 @@ def may_share(way: Way, names: list[str], own: str) -> bool:
     is_even = len(left) > 2 and max(left) - min(left) == len(left) - 1 and len(steps) == 1 and min(steps) > 0
     are_new = all(way.headers[name].is_known and name not in way.found for name in names)
     are_even = are_new and is_even and len({way.headers[name].size % min(steps) for name in names}) == 1
-    return are_even and all(may_be_far(way, way.headers[name], header) for name in names)
+    # Another header that they may follow, and that begins later, is the one that they follow.
+    return are_even and all(header_before(way, name) == own and may_be_far(way, way.headers[name], header) for name in names)
 
 
 def first_behind(way: Way, names: list[str], own: str, absent: Join[Way]) -> Iterator[tuple[Way, str]]:

@@ -141,7 +141,7 @@ def asked_of(condition: Node) -> dict[str, int]:
     match condition:
         case And(_, left, right):
             return asked_of(left) | asked_of(right)
-        case Compare(_, "==", Field(_, _, name), Number(_, value)):
+        case Compare(_, "==", Field(_, _, name), Number(_, value)) | Compare(_, "==", Number(_, value), Field(_, _, name)):
             return {name: value}
     return {}
 
@@ -181,6 +181,8 @@ def check_tag(header: Header, own: Span, headers: Headers) -> None:
     require(is_last, at, f"the field {header.next} of a tag is the last one, of whole bytes",
             f"next {last} names the last one" if last else "a last field, as type:16, says what follows the tag; a header without `next` may end otherwise")
     for other, condition in header.follows.items():
+        require(not headers[other].bits, condition.at, f"a tag follows {other}, whose length varies: its last field need not be right before the tag",
+                f"leave `next` out, or declare one header for each length of {other}")
         name, asked = last_of(headers[other], own.bits), asked_of(condition)
         cure = f"after {other} if {other}.{name} == 0x8100, with no `or`, no range and no other field; leave `next` out where it is no tag"
         none = f"no field of {own.bits} bits ends {other}: leave `next` out, and `push` puts {header.name} in front"

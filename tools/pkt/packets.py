@@ -1,5 +1,6 @@
 """Lowering of changes of packets: freeing, chaining, and changing their length."""
 from collections.abc import Sequence
+from dataclasses import replace
 from itertools import combinations
 
 from . import checksums, conditions, registers
@@ -136,6 +137,9 @@ def do_truncate(way: Way, it: Truncate, _: Join[Way]) -> None:
 
 
 def do_push(way: Way, it: Push, _: Join[Way]) -> None:
+    for pushed in it.headers:
+        require_apart(way, pushed)
+    it = replace(it, headers=completed(way, it.headers))
     if way.unit.tag_follows(it) and (before := conditions.header_before(way, it.headers[0].header)):
         push_tag(way, it.headers[0], before)
     else:
@@ -146,6 +150,24 @@ def do_push(way: Way, it: Push, _: Join[Way]) -> None:
         data, others = values_of(way, it.headers)
         others += checksums.sums_of(way, it.headers, data, others)
         write_headers(way, data, others, 0, prepend(way, it.packet, len(data), CHAINED))
+
+
+def require_apart(way: Way, pushed: Pushed) -> None:
+    """Refuses two named fields with bits in common."""
+    header, named = way.headers[pushed.header], [name for name, _ in pushed.values]
+    for other, name in sorted(combinations(named, 2), key=lambda pair: named.index(pair[1])):
+        is_apart = not header.fields[name].meets(header.fields[other])
+        require(is_apart, pushed.at, f"{header.name}.{name} and {header.name}.{other} have bits in common", "name one of them")
+
+
+def completed(way: Way, pushed: tuple[Pushed, ...]) -> tuple[Pushed, ...]:
+    """Pushed headers with the values that those pushed after them ask for, before the named ones."""
+    found = list[Pushed]()
+    for it, inner in zip(pushed, pushed[1:]):
+        asked = asked_of(way.headers[inner.header].follows.get(it.header, it))
+        more = [(name, Number(it.at, value)) for name, value in asked.items() if name not in dict(it.values)]
+        found.append(replace(it, values=(*more, *it.values)))
+    return (*found, pushed[-1])
 
 
 def push_in_turn(way: Way, it: Push) -> None:
@@ -196,14 +218,10 @@ def values_of(way: Way, pushed: tuple[Pushed, ...], is_late: bool = False) -> tu
     """The constant bytes of headers, and the other fields with their values. Late ones are calculated when they are written, if that is possible."""
     left, whole, others = 8 * sum(way.headers[it.header].size for it in pushed), 0, Others()
     size = left // 8
-    for it, inner in zip(pushed, (*pushed[1:], pushed[-1])):
+    for it in pushed:
         header, named, at = way.headers[it.header], dict(it.values), size - left // 8
-        for (other, _), (name, _) in sorted(combinations(it.values, 2), key=lambda pair: [*named].index(pair[1][0])):
-            is_apart = not header.fields[name].meets(header.fields[other])
-            require(is_apart, it.at, f"{header.name}.{name} and {header.name}.{other} have bits in common", "name one of them")
-        asked = header.defaults | asked_of(way.headers[inner.header].follows.get(it.header, it))
         for name in [*(it for it in header.fields if it not in named), *named]:
-            span, value = header.fields[name], named.get(name, Number(it.at, asked.get(name) or 0))
+            span, value = header.fields[name], named.get(name, Number(it.at, header.defaults.get(name) or 0))
             constant = value.value if isinstance(value, Number) else 0
             if name in named:
                 whole &= ~(span.largest << left - span.end)

@@ -8,7 +8,7 @@ from functools import cache, cached_property
 from typing import Any, Generic, Self, TypeVar
 
 from .graph import Instruction
-from .headers import Header, Headers, Span
+from .headers import Header, Headers, Span, Start
 from .parser import Program
 from .state import EVERYTHING, NOTHING, OFFSET, Needs, State
 from .syntax import THIS, Assign, Field, Found, If, Mend, Name, Need, Node, Place, Pop, Push, children, parts, require
@@ -131,7 +131,8 @@ class Unit:
         """The bits, each with its header, on which it depends whether and where a header is found."""
         before = self.headers[name].before
         asked = {part for other in before for part in parts(tuple(self.headers[other].follows.values())) if isinstance(part, Field)}
-        return {(it.header, self.headers[it.header].fields[it.name]) for it in asked} | {(it, Span(0, self.headers[it].bits)) for it in before}
+        lengths = {(it, Span(0, self.headers[it].bits)) for it in before if self.headers[it].bits}
+        return {(it.header, self.headers[it.header].fields[it.name]) for it in asked} | lengths
 
     @cached_property
     def joined(self) -> set[int]:
@@ -152,10 +153,20 @@ class Unit:
         asked = [span for name in over for header, span in self.asked_for(name) if header == own.name]
         return not any(target.meets(it) for it in asked) and not (own.sum and any(own.fields[own.sum].meets(it) for it in spans))
 
-    def decides(self, own: Header, names: list[str]) -> bool:
-        """Whether the checksum of a header may decide which of others are found, so that they are looked for before it is updated."""
-        asked = {pair for name in names for pair in self.asked_for(name)} if own.sum else set[tuple[str, Span]]()
-        return any(header == own.name and own.fields[own.sum].meets(span) for header, span in asked)
+    def decides(self, own: Header, names: list[str], found: dict[str, Start | None]) -> bool:
+        """Whether the checksum of a header that was found may decide which of others are found, so that they are looked for before it is updated.
+        Another header may have the same bytes, if neither of both comes after the other."""
+        start = found[own.name]
+        if not own.sum or start is None:
+            return False
+        kept = own.fields[own.sum].after(start)
+        for header, span in {pair for name in names for pair in self.asked_for(name)}:
+            other, is_apart = found.get(header), header in own.before or own.name in self.headers[header].before
+            if header == own.name and span.meets(own.fields[own.sum]):
+                return True
+            if not is_apart and (kept.meets(span.after(other)) if other else not self.headers[header].is_known):
+                return True
+        return False
 
     def headers_of(self, it: Node) -> Iterable[str]:
         """The headers that a node itself uses."""
