@@ -131,6 +131,13 @@ class Headers(dict[str, Header]):
                 pending += self.tried(it)
         return found
 
+    def may_overlap(self, one: str, other: str) -> bool:
+        """Whether two headers may have the same bytes: both are present, and come after two that may follow the same header, or begin at byte 0."""
+        if one == other or self[one].is_known and self[other].is_known:
+            return False
+        pairs = [(self[a].follows, self[b].follows) for a in self[one].before for b in self[other].before if a != b]
+        return any(not a and not b or any(may_both_hold(a[it], b[it]) for it in a.keys() & b.keys()) for a, b in pairs)
+
     def covering(self, target: Field) -> list[str]:
         """The headers whose checksum is over a field of another header."""
         return [name for name, it in self.items() if target in it.over]
@@ -144,6 +151,12 @@ def asked_of(condition: Node) -> dict[str, int]:
         case Compare(_, "==", Field(_, _, name), Number(_, value)) | Compare(_, "==", Number(_, value), Field(_, _, name)):
             return {name: value}
     return {}
+
+
+def may_both_hold(one: Node, other: Node) -> bool:
+    """Whether two conditions about one header want no different values of a field."""
+    asked, wanted = asked_of(one), asked_of(other)
+    return all(asked[name] == wanted[name] for name in asked.keys() & wanted.keys())
 
 
 def check(header: Header, headers: Headers) -> None:

@@ -123,9 +123,15 @@ class Unit:
         for it in self.written:
             other = self.headers[it.header]
             is_behind = it.header not in before and all_known and other.is_known and not other.before.isdisjoint(self.headers[name].follows)
-            if not is_behind and (it.header not in before or any(it.header == header and other.fields[it.name].meets(span) for header, span in spans)):
+            if not is_behind and (it.header not in before or any(self.may_change(it, *asked) for asked in spans)):
                 return False
         return True
+
+    def may_change(self, it: Field, name: str, span: Span) -> bool:
+        """Whether an assignment to a field may change bits of a header."""
+        if it.header == name:
+            return self.headers[name].fields[it.name].meets(span)
+        return self.headers.may_overlap(it.header, name)
 
     def asked_for(self, name: str) -> set[tuple[str, Span]]:
         """The bits, each with its header, on which it depends whether and where a header is found."""
@@ -154,19 +160,35 @@ class Unit:
         return not any(target.meets(it) for it in asked) and not (own.sum and any(own.fields[own.sum].meets(it) for it in spans))
 
     def decides(self, own: Header, names: list[str], found: dict[str, Start | None]) -> bool:
-        """Whether the checksum of a header that was found may decide which of others are found, so that they are looked for before it is updated.
-        Another header may have the same bytes, if neither of both comes after the other."""
+        """Whether the checksum of a header that was found may decide which of others are found, so that they are looked for before it is updated."""
         start = found[own.name]
         if not own.sum or start is None:
             return False
-        kept = own.fields[own.sum].after(start)
-        for header, span in {pair for name in names for pair in self.asked_for(name)}:
-            other, is_apart = found.get(header), header in own.before or own.name in self.headers[header].before
-            if header == own.name and span.meets(own.fields[own.sum]):
-                return True
-            if not is_apart and (kept.meets(span.after(other)) if other else not self.headers[header].is_known):
+        kept = own.fields[own.sum]
+        for header, span in self.asked_now(names, found):
+            other = found.get(header)
+            if header == own.name or other is None or other.is_far != start.is_far:
+                is_same = span.meets(kept) if header == own.name else self.headers.may_overlap(own.name, header)
+            else:
+                is_same = kept.after(start).meets(span.after(other))
+            if is_same:
                 return True
         return False
+
+    def asked_now(self, names: list[str], found: dict[str, Start | None]) -> set[tuple[str, Span]]:
+        """The bits, each with its header, that a search for headers asks for, given those that were looked for."""
+        asked, pending, done = set[tuple[str, Span]](), list(names), {*found}
+        while pending:
+            it = self.headers[pending.pop()]
+            if it.name in done:
+                continue
+            done.add(it.name)
+            before = [name for name in it.follows if found.get(name)] or self.headers.tried(it.name)
+            pending += before
+            fields = [part for name in before for part in parts(it.follows[name]) if isinstance(part, Field)]
+            asked |= {(part.header, self.headers[part.header].fields[part.name]) for part in fields}
+            asked |= {(name, Span(0, self.headers[name].bits)) for name in before if self.headers[name].bits}
+        return asked
 
     def headers_of(self, it: Node) -> Iterable[str]:
         """The headers that a node itself uses."""
