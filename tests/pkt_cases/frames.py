@@ -98,7 +98,7 @@ def family_of(rng: Random, deep: int) -> str:
 
 def ipv4(rng: Random, deep: int) -> bytes:
     """An IPv4 packet, with options of any length, whole or a fragment; now and then with a length or a version that is wrong."""
-    words = rng.choice((5, 5, 5, 5, rng.randrange(5, 16)))
+    words = rng.choice((5, 5, 5, rng.randrange(5, 16)))
     ends = struct.pack(">II", *(rng.choice((*HOSTS, rng.getrandbits(32))) for _ in range(2)))
     proto, data = above(rng, family_of(rng, deep), ends, deep)
     pieces = rng.choice((0, 0, 0, 0, 0x4000, 0x4000, 0x2000, rng.randrange(65_536)))
@@ -114,10 +114,13 @@ def ipv4(rng: Random, deep: int) -> bytes:
 
 
 def ipv6(rng: Random, deep: int) -> bytes:
-    """An IPv6 packet, without extension headers."""
+    """An IPv6 packet, now and then with hop-by-hop options."""
     ends = rng.choice((*SIX, rng.randbytes(16))) + rng.choice((*SIX, rng.randbytes(16)))
     family = rng.choice(("tcp", "udp", "other"))
     proto, data = (rng.choice((58, 0, 44, 59)), payload(rng)) if family == "other" else above_ipv6(rng, family, ends)
+    if rng.random() < 0.15:
+        words = rng.choice((0, 0, 1, 2, 3, 4))
+        proto, data = 0, bytes([proto, words]) + bytes(6 + 8 * words) + data
     return struct.pack(">IHBB", 0x60000000 | rng.getrandbits(28), len(data), proto, rng.choice((64, 255, 2, 1, 0))) + ends + data
 
 

@@ -7,6 +7,7 @@ from random import Random
 from pkt_model.reader import read
 from pkt_model.syntax import Bits, Header
 
+from .declarations import declared
 from .numbers import NETS, SIXES, Numbers
 
 INDENT = "    "
@@ -182,6 +183,68 @@ class Writer:
             likely = [it for it in fields if it.split(".")[0] in self.own] or likely
         target = self.rng.choice(likely if likely and self.chance(0.7) else fields)
         return [f"mend {target} {self.rng.choice(('=', '=', '+=', '-='))} {self.value_for(target)}"], False
+
+    def mends(self, state: State, _deep: int) -> tuple[Lines, bool] | None:
+        """Some `mend` of one header in a row, with another statement between them now and then."""
+        if not self.may_write(state):
+            return None
+        fields = self.covered()
+        name = self.rng.choice(self.rng.choice(([*self.numbers.likely, "ipv4"], ["ipv4", "ipv4", "ipv6", "udp", *self.own])))
+        own = [it for it in fields if it.split(".")[0] == name]
+        if not own:
+            return None
+        lines = [f"mend {it} {self.rng.choice(('=', '+=', '-='))} {self.value_for(it)}" for it in self.rng.choices(own, k=self.rng.choice((2, 2, 3)))]
+        if self.chance(0.3):
+            lines.insert(1, self.rng.choice((f"let {self.name('w')} = {self.numbers.field()}", f"{self.rng.choice(own)} = {self.value_for(own[0])}")))
+        return lines, False
+
+    def resized(self, state: State, _deep: int) -> tuple[Lines, bool] | None:
+        """Another length of a header, after one that follows it was looked for, and before it is used again."""
+        if not self.may_write(state):
+            return None
+        name = self.rng.choice(["ipv4", "ipv4", *(it for it in self.headers if self.headers[it].extent)])
+        after = [it for it, header in self.headers.items() if name in header.after]
+        field = self.rng.choice(("ihl", "ihl", "vhl", "version") if name == "ipv4" else list(self.headers[name].fields))
+        change = f"{name}.{field} {self.rng.choice(('=', '=', '^=', '+='))} {self.value_for(f'{name}.{field}')}"
+        first, then = (self.rng.choice(after or [name]) for _ in range(2))
+        count = [f"if {then} {{", f"{INDENT}count {self.name('n')}", "}"]
+        use = self.rng.choice([count, *([f"{then}.{it} += 1"] for it in list(self.headers[then].fields)[:2])])
+        return [f"if {first} {{", *indented([change, *use]), "}"], False
+
+    def tried(self, state: State, deep: int) -> tuple[Lines, bool] | None:
+        """A packet that is sent with an `else` part, after which the program goes on."""
+        if deep == 0 or self.left <= 0 or not self.chance(0.5):
+            return None
+        there = state.copy()
+        head = self.end(state)[0]
+        if head.startswith("drop"):
+            return None
+        state.is_lost = state.is_lost or "clone" in state.held.values()
+        there.is_lost = state.is_lost
+        lines, ends = self.braces(f"{head} else", there, deep)
+        self.join(state, False, there, ends)
+        return lines, ends
+
+    def tunnel(self, state: State, _deep: int) -> tuple[Lines, bool] | None:
+        """Headers that are put between the Ethernet header and the next one, as the page does it; what is kept lives across that."""
+        if not self.may_write(state) or self.left <= 0:
+            return None
+        state.pushed += 60
+        kept, field = self.name("v"), self.rng.choice(("ipv4.len", "ipv4.tos", "ipv4.src", "udp.dport", self.numbers.field()))
+        self.numbers.variables.append(kept)
+        inner = self.rng.choice(("ipv4", "ipv4", "vlan", "ipv6", "mpls", *self.own))
+        lines = [f"let {kept} = {field}", self.rng.choice(("cut 14", "pop eth", "pop eth/vlan"))]
+        lines.append(f"push eth {{ {self.pushed_fields('eth')} }} {inner} {{ {self.pushed_fields(inner)} }}".replace("{  }", "{ }"))
+        return lines, False
+
+    def lent(self, state: State, deep: int) -> tuple[Lines, bool] | None:
+        """A clone that is there while headers are read, and gone before they are written."""
+        if len(state.held) >= 5 or not self.may_write(state) or self.setting.pools < 2:
+            return None
+        name, read = self.name("c"), self.numbers.field()
+        asked = [f"if {read} != 1 {{", f"{INDENT}count {self.name('n')}", "}"]
+        write = self.mend(state, deep) or self.put(state, deep)
+        return [f"clone {name} from 1", *asked, f"free {name}", *(write[0] if write else [])], False
 
     def covered(self) -> list[str]:
         """The fields that some checksum covers and that are one word of it or more."""
@@ -476,6 +539,7 @@ class Writer:
             lines.append(f"const {name} = {self.numbers.constants[name]}")
         if self.chance(0.6):
             lines.append(f"otherwise {self.otherwise()}")
+        lines += [f"if {name} {{ }}" for name in self.headers if (name in self.own or name == "options6") and self.chance(0.4)]
         state = State(segments=self.setting.segments)
         made, _ = self.block(state, DEPTH)
         return "\n".join([*lines, *made]) + "\n"
@@ -524,7 +588,7 @@ def touches(bits: Bits, other: Bits) -> bool:
 
 # What parts the words of a statement; and the makers of those that touch headers and make no name.
 NAMES = re.compile(r"[^A-Za-z0-9_]+")
-GUARDED = (Writer.assign, Writer.put, Writer.mend, Writer.push, Writer.push_own, Writer.pop)
+GUARDED = (Writer.assign, Writer.put, Writer.mend, Writer.mends, Writer.push, Writer.push_own, Writer.pop)
 # The makers of statements, and how often each is chosen.
 MAKERS: list[tuple[Callable[[Writer, State, int], tuple[Lines, bool] | None], float]] = [
     (Writer.let, 0.8),
@@ -549,71 +613,15 @@ MAKERS: list[tuple[Callable[[Writer, State, int], tuple[Lines, bool] | None], fl
     (Writer.push_own, 1.0),
     (Writer.pop, 0.8),
     (Writer.cut, 0.5),
+    (Writer.mends, 0.5),
+    (Writer.resized, 0.25),
+    (Writer.tried, 0.5),
+    (Writer.tunnel, 0.25),
+    (Writer.lent, 0.25),
 ]
-
-
-# The IPv4 header that an ICMP error quotes, and a header after it.
-QUOTED = """header quoted { vhl:8 tos:8 len:16 id:16 pieces:16 ttl:8 proto:8 sum:16 src:32 dst:32 } after icmp if icmp.type == 3
-       length (v & 15) * 4 for v:8 in 0x45..0x4f sum sum
-header inner { sport:16 dport:16 len:16 sum:16 } after quoted if quoted.proto == 17 and quoted.pieces & 0x1fff == 0
-       sum sum payload over quoted.src quoted.dst inner.len optional
-"""
-
-
-def own_header(rng: Random, name: str, before: str) -> str:
-    """A header of the program's own, which follows another. Every third one is narrow: its bits share the bytes of one load."""
-    fields, at, is_narrow = [], 0, rng.random() < 0.35
-    for number in range(rng.choice((2, 2, 3) if is_narrow else (1, 2, 3, 4))):
-        count = rng.choice((1, 3, 4, 5, 12, 20) if is_narrow else (8, 8, 16, 16, 32, 48, 64, 4, 3, 13, 20, 24, 40))
-        count = min(count, 64 - at % 8)
-        constant = f"={rng.getrandbits(count)}"
-        default = rng.choice(("", *([constant] * 2 if is_narrow else ("", "")), constant, "=auto" if count == 16 and at % 16 == 0 else ""))
-        default = "" if default == "=auto" and "=auto" in " ".join(fields) else default
-        fields.append(f"f{number}:{count}{default}")
-        at += count
-    if at % 8:
-        fields.append(f"pad:{8 - at % 8}{rng.choice(('', f'={rng.getrandbits(8 - at % 8)}'))}")
-        at += 8 - at % 8
-    texts = list(fields)
-    if rng.random() < 0.3:
-        begin = rng.randrange(at)
-        texts.append(f"second@{begin}:{min(rng.choice((1, 4, 8, 11)), at - begin)}")
-    asks = {
-        "eth": "eth.type == 0x88b5", "vlan": "vlan.type == 0x88b5", "ipv4": "ipv4.proto == 50", "udp": "udp.dport == 53", "gre": "gre.type == 0x0800",
-        "mine0": "mine0.f0 != 1",
-    }
-    text = f"header {name} {{ {' '.join(texts)} }}" + (f" after {before} if {asks[before]}" if before else "")
-    kind, last = rng.random(), fields[-1].split(":")[0]
-    if kind < 0.25 and before in ("eth", "vlan") and ":16" in fields[-1]:
-        return f"{text} next {last}"
-    if kind < 0.4:
-        return f"{text} length {at // 8} + ({rng.choice(('v & 3', 'v & 3', 'v & 63', 'v - 64'))}) * {rng.choice((1, 2, 4, 4, 8, 100, 30_000))} for v:8 in 0x40..0x43"
-    return text if kind < 0.8 else text + own_sum(rng, fields)
-
-
-def own_sum(rng: Random, fields: Lines) -> str:
-    """A checksum of a header of the program's own, where one of its fields can have it."""
-    at = 0
-    for text in fields:
-        name, count = text.split("=")[0].split(":")
-        if "=auto" in " ".join(fields) and "=auto" not in text:
-            at += int(count)
-            continue
-        if "=auto" in text:
-            return f" sum {name}{rng.choice(('', ' optional'))}"
-        if int(count) == 16 and at % 16 == 0:
-            over = rng.choice(("", "", " over ipv4.src ipv4.dst", " over eth.src"))
-            return f" sum {name}{rng.choice(('', ' payload'))}{over}{rng.choice(('', ' optional'))}"
-        at += int(count)
-    return ""
 
 
 def program(rng: Random, setting: Setting, prelude: str, wild: bool) -> str:
     """A program; a wild one writes what the page does not allow now and then."""
-    own = ""
-    if rng.random() < 0.25:
-        own = own_header(rng, "mine0", rng.choice(("eth", "eth", "vlan", "ipv4", "udp", "gre", ""))) + "\n"
-        if rng.random() < 0.5:
-            own += own_header(rng, "mine1", rng.choice(("eth", "eth", "vlan", "ipv4", "udp", "gre", "", *["mine0"] * 6))) + "\n"
-    own += QUOTED if rng.random() < 0.1 else ""
+    own = declared(rng, prelude)
     return own + Writer(rng, setting, read(own, prelude).headers, wild).text()
