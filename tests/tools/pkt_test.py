@@ -275,6 +275,9 @@ class Errors(unittest.TestCase):
         names = "abcdefgh"
         source = "".join(f"let {it} = eth.type + {k}\n" for k, it in enumerate(names)) + "eth.src = " + " + ".join(names) + "\nsend port"
         self.assertIn("this needs a ninth number: a, b, c, d, e, f, g, port are held", self.said(source))
+        self.assertIn("one holds two: let both = udp.sport << 16 | udp.dport", self.said(source))
+        both = "let both = udp.sport << 16 | udp.dport\nudp.sport = both\nudp.dport = both >> 16\nsend port"
+        self.assertEqual(sent(both, udp(1, 2, summed=False))[0], [udp(2, 1, summed=False)])
 
     def test_too_many_instructions(self) -> None:
         said = self.said("let x = port\n" + "".join(f"x = (x << 1) ^ eth.type ^ {k}\n" for k in range(400)) + "eth.src = x\nsend port")
@@ -541,6 +544,27 @@ class Slips(unittest.TestCase):
         ("cut\nsend port", "2:1", "missing before `send`", "cut 14\nsend port"),
         ("drop \u201cwhy\u201d", "1:6: no word begins with '\u201c'", "plain double quotes", 'drop "why"'),
         ("def f() { drop ? }\nsend port", "1:16: no word begins with '?'", "if c {", "def f() { drop }\nsend port"),
+        ("header n { k:32 } after gre if gre.type == 1\nheader h { a:8 } after n\nneed h\nsend port", "3:1: 'if' is expected here", "after udp if 1, where nothing decides",
+         "header n { k:32 } after gre if gre.type == 1\nheader h { a:8 } after n if 1\nneed h\nsend port"),
+        ("ports 2\nclone c from 1\nnew h from 0\npush eth { } on h\nchain h before c\nsend c to 1\nsend port", "5:16: 'this' is expected here, and this is 'c'",
+         "a clone of it can go on as it was", "ports 2\nclone c from 1\nsend c to port\nnew h from 0\npush eth { } on h\nchain h before this\nsend 1"),
+        ("push eth { } zeros { x = 0 }\nsend port", "1:14: a header is expected here, and 'zeros' is none", "header zeros { a:8 } after udp if udp.dport == 7",
+         "header zeros { x:32 }\npush eth { } zeros { x = 0 }\nsend port"),
+        ("mirror 1\nsend port", "1:1: no statement begins with 'mirror'", "clone c from 1, and send c to 1", "ports 2\nclone c from 1\nsend c to 1\nsend port"),
+        ("recompute ipv4.sum\nsend port", "1:1", "sum = auto makes the checksum of a pushed header", "mend ipv4.ttl = 64\nsend port"),
+        ("pad 60\nsend port", "1:1", "no statement adds bytes at the end of a packet", "send port"),
+        ("need tcp.dst == 80\nsend port", "1:10: tcp has no field dst", "did you mean tcp.dport?", "need tcp.dport == 80\nsend port"),
+        ("if ipv4.options { drop }\nsend port", "1:9", "did you mean ipv4.ihl > 5, and a header after ipv4, which begins after the options?", "if ipv4.ihl > 5 { drop }\nsend port"),
+        ("need tcp.options\nsend port", "1:10", "header mine { kind:8 size:8 } after tcp if tcp.off > 5, the first option",
+         "header mine { kind:8 size:8 } after tcp if tcp.off > 5\nneed mine.kind == 2\nsend port"),
+        ("header p { kind:8 size:8 corr:16 } after eth if eth.type == 0x88f7 after udp if udp.dport == 319\nif udp {}\nif p { mend p.corr += 5 }\nsend port",
+         "3:8: no checksum covers p.corr where it is after eth", "if udp { mend p.corr = .. } else { p.corr = .. }",
+         "header p { kind:8 size:8 corr:16 } after eth if eth.type == 0x88f7 after udp if udp.dport == 319\n"
+         "if udp { if p { mend p.corr += 5 } } else if p { p.corr += 5 }\nsend port"),
+        ("mend ipv6.flow = 5\nsend port", "1:1: no checksum covers ipv6.flow\n", "assign without `mend`", "ipv6.flow = 5\nsend port"),
+        ("need ipv4 else count other drop\nsend port", "1:1", "in braces if it is more than that: else { count web drop }", "need ipv4 else { count other drop }\nsend port"),
+        ("ports 2\nclone c from 1\npush vlan { vid = 5 } on c\nsend c to 1\nsend port", "3:1", "then the clone is what goes on as it was",
+         "ports 2\nclone c from 1\nsend c to port\nnew h from 0\npush eth { } vlan { } on h\nchain h before this\nsend 1"),
     )
 
     def test_each_cure_helps(self) -> None:
@@ -1395,6 +1419,8 @@ class Reached(unittest.TestCase):
             "pop eth\nif tcp.dport == 80 { drop }": "line 2: tcp is read after line 1 took the Ethernet header off",
             "pop eth/ipv4/gre\nif gre.type == 3 { drop }": "line 2: gre is read after line 1 took gre off",
             "push eth { } ipv4 { len = 20 }": "line 1: ipv4.ttl is not named, and is 0: the next router drops such a packet",
+            "push eth { } ipv4 { len = 20 ttl = 9 }": "line 1: ipv4.proto is not named, and is 0, as nothing pushed after it says what it carries",
+            "header m { a:8 }\npush eth { } ipv6 { len = 1 hops = 9 } m { a = 5 }": "line 2: ipv6.next is not named, and is 0, as nothing",
             "tcp.sum = 0\nmend ipv4.src = 5": "line 1: `mend` updates tcp.sum, and calculates none from 0",
             "let p = tcp.dport\nports 4\nif ipv4 { send p }": "line 3: tcp.dport is the port of a program on a host",
             "need tcp.seq - tcp.ack > 1000": "line 1: a difference is a great number where it would be below 0, as numbers are unsigned; x > y + 5",
@@ -1420,7 +1446,7 @@ class Reached(unittest.TestCase):
                        "ipv4.src ^= ipv4.dst\nipv4.dst ^= ipv4.src\nipv4.src ^= ipv4.dst", "const GATEWAY = 192.0.2.1\nneed ipv4.dst in GATEWAY/24",
                        "push eth { } ipv4 { len = 36 ttl = 9 src = 1 dst = 2 } udp { len = 16 } vxlan { }\nudp.sport = 5", "need ipv4.ihl - 5 > 0",
                        "push mpls { ttl = 9 }\npush eth { }", "push mpls { bottom = 1 }\npush eth { type = 0x8847 }\nmpls.ttl = 64", "push vlan { vid = 2 }\npush qinq { vid = 1 }", "push mpls { ttl = 9 }\nif tcp { queue 0 }", pppoe,
-                       "let n = ipv4.len\ncut 14\npush eth { } ipv4 { len = n ttl = 9 }\nneed ipv4", "if eth.type == 0x88b5 { cut 14 }\nneed eth.type == 5\npop eth\nneed ipv4",
+                       "let n = ipv4.len\ncut 14\npush eth { } ipv4 { len = n ttl = 9 proto = 4 }\nneed ipv4", "push eth { } ipv4 { len = 28 ttl = 9 } udp { len = 8 }", "push eth { } ipv6 { len = 8 hops = 9 }\nipv6.next = 60", "if eth.type == 0x88b5 { cut 14 }\nneed eth.type == 5\npop eth\nneed ipv4",
                        "pop eth/ipv4/udp/vxlan\nneed ipv4.ttl > 5", "udp.sum = 0\nmend udp.dport = 5", "ipv4.sum = 0\nmend tcp.dport = 5", "need tcp or (udp and l4.dport == 5)",
                        "need tcp.seq > tcp.ack\nneed tcp.seq - tcp.ack > 9", "if vlan {}\nif ipv4.src == 5 { drop }\nif vlan { pop vlan }",
                        "if ipv4 { send port }\nif vlan.vid == 5 { drop }", "if eth.src == 5 { drop }\nif vlan { pop vlan }", "if ipv4.ttl < 2 { drop }\npush vlan { vid = 5 }",

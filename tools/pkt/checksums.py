@@ -12,19 +12,24 @@ DIFFERENCE, CHANGES = "$difference", "$changes"
 Others = list[tuple[Span, Value | Node]]
 
 
-def without_sum(way: Way, target: Field) -> str:
-    """What to do for a field that no checksum covers: headers at the same place, as tcp and udp at that of l4, may have it with one."""
-    own = way.headers[target.header]
-    others = [it.name for it in way.headers.values()
-              if it.sum and it.follows.keys() & own.follows.keys() and it.fields.get(target.name) == own.fields[target.name]]
-    return " else ".join(f"if {it} {{ mend {it}.{target.name} = .. }}" for it in others) or "assign without `mend`"
+def without_sum(way: Way, target: Field) -> tuple[str, str]:
+    """The error for a field that no checksum covers, and what to do: headers at the same place, as tcp and udp at that of l4, may have it with
+    one, and so may the header itself after another one."""
+    own, name = way.headers[target.header], target.name
+    fault = f"no checksum covers {own.name}.{name}"
+    others = [it.name for it in way.headers.values() if it.sum and it.follows.keys() & own.follows.keys() and it.fields.get(name) == own.fields[name]]
+    after = [it for it in own.follows if any(way.headers[other].payload for other in way.headers[it].before)]
+    if others or not after:
+        return fault, " else ".join(f"if {it} {{ mend {it}.{name} = .. }}" for it in others) or "assign without `mend`"
+    cases = " else ".join(f"if {it} {{ mend {own.name}.{name} = .. }}" for it in after)
+    return f"{fault} where it is after {conditions.header_before(way, own.name)}", f"{cases} else {{ {own.name}.{name} = .. }}"
 
 
 def do_mend(way: Way, it: Mend, after: Join[Way], _: Join[Way]) -> None:
     """Assigns to a field, and updates each checksum that covers it, or a checksum that changes; the headers were found."""
     own, over, field = way.headers[it.target.header], way.headers.covering(it.target), f"{it.target.header}.{it.target.name}"
     names = [name for name in chain(way, own.name) if way.headers[name].payload or name == own.name and own.sum]
-    require(names or over, way.at, f"no checksum covers {field}", without_sum(way, it.target))
+    require(names or over, way.at, *without_sum(way, it.target))
     require(own.sum != it.target.name, way.at, f"{field} is the checksum itself", "assign without `mend`")
     for name in names:
         require_even(way, name, own.name)

@@ -5,7 +5,7 @@ from difflib import get_close_matches
 BRACES, LIST, RANGE = "what belongs to it is within braces: if c { drop }", "x in {1, 2} compares x with each", "a range comes after `in`: x in 1..5"
 COMPARE = "a sign is between two numbers, as ==, or `in`; what belongs to a condition is within braces"
 ITEMS, DEF = "a comma is between two items, and } after the last one", "def f() { .. } has no parameter, def f(a) { .. } has one"
-ASSIGN, AFTER, UNIT = "an = is before the value", "after udp if udp.dport == 7", "a number has no unit: lengths are in bytes, and fields in bits"
+ASSIGN, AFTER, UNIT = "an = is before the value", "after udp if udp.dport == 7; after udp if 1, where nothing decides", "a number has no unit: lengths are in bytes, and fields in bits"
 LOOKUP, ALONE = "let x = lookup ROUTES ipv4.dst", "statements stand alone, with no block around them"
 FIELD = "a field has its bits after a colon, as in a:8, and blanks before the next one"
 # The cures for these words out of place.
@@ -67,6 +67,10 @@ SLIPS = {
     "statements begin with let, if, while, need, drop, send: send port sends the packet to where it came from, and send 1 to port 1":
         "accept pass allow permit forward redirect output XDP_PASS XDP_TX XDP_REDIRECT TC_ACT_OK NF_ACCEPT",
     "write drop": "reject deny block discard mark_to_drop XDP_DROP XDP_ABORTED TC_ACT_SHOT NF_DROP",
+    "clone c from 1, and send c to 1": "mirror copy duplicate dup tee",
+    "mend ipv4.ttl = 64 changes a field and its checksums, and sum = auto makes the checksum of a pushed header":
+        "recompute recalculate update fix checksum csum",
+    "no statement adds bytes at the end of a packet: push puts headers at its front": "append pad tailroom",
     "count web counts packets, and nothing is printed": "log print printf printk counter",
     "mend ipv4.dst = 10.0.0.1 changes an address and its checksums": "dnat snat nat masquerade",
     "a rule is as if tcp.dport == 80 { drop }": "host src dst ip ip6 ether rule iptables nft add",
@@ -92,6 +96,7 @@ WANTED = {
     "{": BRACES, "{:": BRACES, "{the end of the text": BRACES, "{,": "a list is within braces: x in {1, 2}", "{)": "no parenthesis is open here",
     "{number": COMPARE, "{ip": COMPARE, "}": ITEMS, "}{": ITEMS, ")": "the parenthesis before it is open", "),": LIST, "(": DEF, "({": DEF,
     "=": ASSIGN, "={": ASSIGN, "=:": ASSIGN, "===": ASSIGN, "from": "clone c from 1, or new h from 1", "before": "chain h before this",
+    "this": "chain h before this: only the packet gets headers so, and a clone of it can go on as it was",
     "for": "length v * 4 for v:8 in 5..15", ":": "length v * 4 for v:8 in 5..15", "if": AFTER, "if.": AFTER, ".": "over ipv4.src ipv4.dst names fields",
     "{to": RANGE,
     "after": "extend ipv4 after mine if mine.type == 5",
@@ -102,7 +107,7 @@ HEADERS = {
     "l4": "th transport",
 }  # fmt: skip
 FIELDS = {
-    "src sport spa": "saddr src_addr srcaddr source smac sip", "dst dport tpa": "daddr dst_addr dstaddr dest destination dmac dip",
+    "src sport spa": "src saddr src_addr srcaddr source smac sip", "dst dport tpa": "dst daddr dst_addr dstaddr dest destination dmac dip",
     "proto next type": "protocol nexthdr next_header nh proto next", "ttl hops": "ttl hops hoplimit hop_limit hlim",
     "sum": "checksum csum chksum check cksum hdrchecksum", "len": "length total_len totallen tot_len total_length plen payload_len size",
     "pcp tc": "prio priority cos", "vid": "id vlan_id vlanid tag tci", "type": "ethertype ether_type h_proto", "sport": "src_port srcport",
@@ -133,6 +138,11 @@ CALLED = {
     "sum = auto makes the checksum of a pushed header, and mend updates one": "checksum csum cksum ipchecksum csum_diff bpf_csum_diff",
 }  # fmt: skip
 ASKED, INSIDE = ("isvalid", "valid", "present", "exists"), ("options", "option", "opts", "payload", "data", "body", "rest")
+# What asks for the options of a header, and where the header is that follows it.
+OPTIONS = {
+    "ipv4": "ipv4.ihl > 5, and a header after ipv4, which begins after the options",
+    "tcp": "tcp.off > 5, and header mine { kind:8 size:8 } after tcp if tcp.off > 5, the first option",
+}
 
 
 def cure_of(word: str, known: Iterable[str] = (), wanted: str = "", kind: str = "") -> str:
@@ -163,6 +173,8 @@ def field_meant(header: str, word: str, fields: Iterable[str]) -> str:
         return f"{header}.flags & {BITS[header][word.lower()]}"
     if word.lower() in MOVED:
         return f"push {header} {{ .. }} or pop {header}"
+    if word.lower() in INSIDE[:3] and header in OPTIONS:
+        return OPTIONS[header]
     if word.lower() in INSIDE:
         return f"header mine {{ a:8 }} after {header} if {header}.{next(iter(fields))} == 5, for what follows it"
     if word.lower() == "port" and "sport" in fields:

@@ -2,7 +2,7 @@
 uses, headers that come before the Ethernet header or are read after it was taken off, `after` clauses that no search uses, and so on."""
 from collections.abc import Iterable, Iterator
 
-from .headers import Headers
+from .headers import Headers, asked_of
 from .parser import Program
 from .syntax import (
     OWN, THIS, And, Assign, Binary, Block, Chain, Clone, Compare, Cut, Field, Found, Free, If, Inline, Let, Mend, Name, Need, New, Node, Not, Number, Or, Place,
@@ -14,6 +14,8 @@ MAX_NOTES = 10
 Noted = tuple[Place, str]
 # The fields with how many hops a packet goes on.
 HOPS = {"ipv4": "ttl", "ipv6": "hops", "mpls": "ttl"}
+# The fields that say what follows, where 0 is hop-by-hop options.
+NEXT = {"ipv4": "proto", "ipv6": "next"}
 # The parts of a text of which one is read after another; in others the headers are used in the order of their declarations.
 ORDERED = (If, Need, While, Inline, And, Or, Not)
 NAMES, PROTO = {1: "icmp", 6: "tcp", 17: "udp", 47: "gre"}, Field(Place(0, 0, ""), "ipv4", "proto")
@@ -30,7 +32,7 @@ def notes_of(program: Program) -> list[str]:
     """The notes on a text, in its order, each with its line."""
     statements = list(parts(program.statements))
     found = [*program.notes.items(), *stale(statements, program.headers), *kept(statements), *in_front(statements, program.headers), *unasked(program)]
-    found += [*taken_off(program), *zeros(statements), *cleared(statements, program.headers), *sent_nowhere(program), *sent_to_a_field(statements)]
+    found += [*taken_off(program), *zeros(statements), *untyped(statements, program.headers), *cleared(statements, program.headers), *sent_nowhere(program), *sent_to_a_field(statements)]
     found += [*tags_late(program), *without_pieces(program, statements)]
     said = dict.fromkeys(f"{program.rows[at.line].place}: {OWN.sub('', text)}" for at, text in sorted(found, key=lambda it: it[0][:2]))
     return [*list(said)[:MAX_NOTES], *([f"{len(said) - MAX_NOTES} notes more"] if len(said) > MAX_NOTES else [])]
@@ -119,6 +121,17 @@ def zeros(statements: list[Node]) -> Iterator[Noted]:
         name = HOPS.get(part.header, "")
         if name and name not in dict(part.values) and (part.header, name) not in written:
             yield part.at, f"{part.header}.{name} is not named, and is 0: the next router drops such a packet; {name} = 64 is usual"
+
+
+def untyped(statements: list[Node], headers: Headers) -> Iterator[Noted]:
+    """Protocols that a push leaves at 0, as neither a value nor the header after it says them, where the program writes nothing else there."""
+    written = {(it.target.header, it.target.name) for it in statements if isinstance(it, (Assign, Mend)) and isinstance(it.target, Field)}
+    pushes = [it.headers for it in statements if isinstance(it, Push)]
+    for part, inner in (pair for it in pushes for pair in zip(it, [*it[1:], None])):
+        name, condition = NEXT.get(part.header, ""), headers[inner.header].follows.get(part.header) if inner else None
+        said = {*dict(part.values), *(asked_of(condition) if condition else {})}
+        if name and name not in said and (part.header, name) not in written:
+            yield part.at, f"{part.header}.{name} is not named, and is 0, as nothing pushed after it says what it carries; {name} = 4 is IPv4, and 41 IPv6"
 
 
 def cleared(statements: list[Node], headers: Headers) -> Iterator[Noted]:

@@ -13,7 +13,7 @@ from .syntax import THIS, Chain, Cut, Field, Free, Name, Node, Number, Pop, Push
 from .ways import Join, Way, pieces
 
 MAX_BUFFER, MAX_SEGMENTS = 4_096, 64
-CHAINED = "push before `clone`, or chain the headers before it: new h from 0, push .. on h, chain h before this"
+CHAINED = "push before `clone`, or chain the headers before it: new h from 0, push .. on h, chain h before this; then the clone is what goes on as it was"
 
 
 def register_of(way: Way, name: str) -> int:

@@ -37,7 +37,7 @@ def fresh(way: Way) -> Value:
     names = ", ".join(sorted(it for it in way.variables if not it.startswith("$")))
     if not free:
         raise NoRegister(way.at, f"this needs a ninth number: {names} are held, and what is calculated here",
-                         "variables end with their block, and port where it is no more used")
+                         "variables end with their block, and port where it is no more used; one holds two: let both = udp.sport << 16 | udp.dport")
     needed = {span_of(way, it) for it in way.unit.needs if isinstance(it, Field) and way.found.get(it.header) is not None}
     wanted = {r for it, r in way.loaded.items() if it in needed}
     register = min(free, key=lambda r: (r in way.loaded.values()) + (r in wanted))

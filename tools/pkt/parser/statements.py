@@ -136,7 +136,8 @@ class Statements(Expressions):
             cure = "`need c` drops by itself what is otherwise; `need c else drop` says it"
         require(goes_on(before), at, "control never comes here: the statement before it ends the program", cure)
         if isinstance(it, (Lookup, Need, Clone, New)) and it.fallback is not None:
-            require(not goes_on(it.fallback), at, "what is after this `else` has to end the program", "end it with drop or send")
+            require(not goes_on(it.fallback), at, "what is after this `else` has to end the program",
+                    "end it with drop or send, in braces if it is more than that: else { count web drop }")
         if isinstance(it, (Let, Lookup, Clone, New)):
             self.declare(at, it.name.split(PRIME)[0], "a variable" if isinstance(it, (Let, Lookup)) else "a packet")
         self.begun = outside
@@ -236,7 +237,7 @@ class Statements(Expressions):
     def pushed(self) -> tuple[Pushed, ...]:
         """Pushed headers, with their fields."""
         found = [self.pushed_header()]
-        while self.sees_header("{"):
+        while self.sees_header("{") or self.place(1).word == "{" and self.names_nothing(self.place()) and self.place().word not in CURES:
             found.append(self.pushed_header())
         return tuple(found)
 
