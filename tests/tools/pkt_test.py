@@ -1595,10 +1595,15 @@ class Page(unittest.TestCase):
         self.assertLess(count(text.split("```")[1]), 400)
 
     def test_a_header_between_two(self) -> None:
-        text = next(it for it in self.page.split("```") if "let to = eth.dst" in it)
+        text = next(it for it in self.page.split("```") if "let size = ipv4.len" in it)
         (frame,) = sent(f"need ipv4\n{text}\nsend port", eth(ipv4(1, bytes(8))))[0]
         self.assertEqual(frame[34:], ipv4(1, bytes(8)))
         self.assertEqual((checksum(frame[14:34]), frame[12:14], len(frame)), (0, b"\x08\0", 62))
+
+    def test_a_clone_beside_a_changed_packet(self) -> None:
+        text = next(it for it in self.page.split("```") if "clone keep from 1" in it)
+        frame = eth(ipv4(1, bytes(8)))
+        self.assertEqual(sent(text, frame)[:2], [[frame], [tagged(frame, 900)]])
 
     def test_the_first_program(self) -> None:
         program = (TOP / "examples/nat/nat.pkt").read_text()
