@@ -122,7 +122,7 @@ EXPLAINED = (
         "not inferred at 1 by J6", "2: adj p1,4", J6, "p1 first 0", "p1 first 4", "iflen p1,4,L before it")),
     Case("explain-one", "free p2\nfree p0\nexit\n", (), 1, explained(
         "not inferred at 0 by J4", "1: free p2", "J4: each packet register that is used holds a packet",
-        "p2 empty", "a packet in p2", "put a packet into p2 before it, by alloc or clone")),
+        "p2 empty", "a packet in p2", "use p2 before it is sent, queued or freed; or put a packet into it by alloc or clone")),
     Case("explain-one", "clone p1,p0,0,d\nalloc p1,0,e\ne: free p1\nd: free p0\nexit\n", (), 1, explained(
         "not inferred at 1 by J5", "2: alloc p1,0,e", "J5: the target of alloc and clone is empty, and those of chain differ",
         "p1 in group p0, headroom 128, at most 1 segment", "p1 empty", "free p1 before it, or take another register")),
