@@ -5,7 +5,9 @@ Usage: tests/program/judged.py [PROGRAM]   (the built program; by default the on
 Programs that are accepted, that are refused with a certificate or without one, that have code that is never reached, or that are no programs; by
 themselves and as the nodes of a pipeline. Prints a line for each case that failed, and a count; exits with 1 if a case failed.
 """
+import json
 import pathlib
+import re
 import subprocess
 import sys
 from typing import NamedTuple
@@ -101,6 +103,10 @@ EXPLAINED = (
         "not inferred at 2 by J6", "3: loadx r1,p0,r2,0,1", "J6: the packet has the bytes or the room that the instruction needs",
         "p0 first 14", "p0 first 255 + 1",
         "bound the index before it by jlt or and: it can be 255; iflen p0,256,L would do, too, but sends each shorter packet to L")),
+    # The most bytes for which iflen can test: an index of up to 65,533, and two bytes.
+    Case("explain-one", "iflen p0,14,d\nload r2,p0,0,2\nand r2,65533\nloadx r1,p0,r2,1,1\nd: free p0\nexit\n", (), 1, explained(
+        "not inferred at 3 by J6", "4: loadx r1,p0,r2,1,1", J6, "p0 first 14", "p0 first 65533 + 2",
+        "bound the index before it by jlt or and: it can be 65533; iflen p0,65535,L would do, too, but sends each shorter packet to L")),
     Case("explain-one", PASS, (SOLE, NONE, ONE_BYTE, NONE), 1, explained(
         "refused at 0 by J11", "1: tx p0,r0,d", "J11: the facts after the instruction satisfy the row of each successor",
         "p0 sole, headroom 128, at most 1 segment", "at 2, d: p0 sole, headroom 128, first 1, at most 1 segment",
@@ -189,6 +195,15 @@ SHOWN = (
   7         exit           + p0 empty
   8  full:  free p0        + {ENTRY}
   9         exit           + p0 empty
+"""),
+    # An instruction of which all is shorter than what changed from the line before.
+    Case("show-one", "clone p1,p0,0,d\njmp f\ne: exit\nf: free p1\nd: free p0\njmp e\n", (), 0, f"""port 0 accepted
+  0      clone p1,p0,0,d  {ENTRY}; r0-r7 <= 0
+  1      jmp f            + p0 in group p0; p1 in group p0, headroom 128, at most 1 segment
+  2  e:  exit             r0-r7 <= 0
+  3  f:  free p1          + p0 in group p0, headroom 128, at most 1 segment; p1 in group p0, headroom 128, at most 1 segment
+  4  d:  free p0          + p0 sole; p1 empty
+  5      jmp e            + p0 empty
 """),
     # An instruction after one that is never reached, of which all is said.
     Case("show-one", "jmp a\nexit\na: free p0\nexit\n", (), 0, f"""port 0 accepted
@@ -318,7 +333,8 @@ OF_PIPELINE = (
 LATE = "iflen p0,14,d\nenq p0,0,d\nexit\nd: free p0\nexit\n"
 COUNT = "set r1,0\na: add r1,1\njlt r1,200,a\ntx p0,r0,e\nexit\ne: free p0\nexit\n"
 TAKES = {"strip.dpv": (STRIP, "5 instructions"), "pass.dpv": (PASS, "3 instructions"), "to0.dpv": (PASS.replace("tx p0,r0", "enq p0,0"), "3 instructions"),
-         "to1.dpv": (PASS.replace("tx p0,r0", "enq p0,1"), "3 instructions"), "late.dpv": (LATE, "4 instructions"), "drop.dpv": ("free p0\nexit\n", "2 instructions"),
+         "to1.dpv": (PASS.replace("tx p0,r0", "enq p0,1"), "3 instructions"), "to2.dpv": (PASS.replace("tx p0,r0", "enq p0,2"), "3 instructions"),
+         "late.dpv": (LATE, "4 instructions"), "drop.dpv": ("free p0\nexit\n", "2 instructions"),
          "count.dpv": (COUNT, f"{257 * 7} instructions: it can jump back at 2")}
 RING_OF = "[[ring]]\ncount = 2\nshare = 0\nhead = 0\ntail = 0\nfirst = 0\nlast = 0\nsegs = 1\n"
 AGAIN = ": there is no bound for all turns in which a packet runs\n"
@@ -329,6 +345,11 @@ COSTS = (
     (["to0.dpv"], ["to1.dpv", "drop.dpv"], "the turn of a record takes at most 99 instructions: 3 on port 0, 96 on packets in rings\n"),
     (["pass.dpv"], ["count.dpv"], f"the turn of a record takes at most {3 + 32 * 257 * 7} instructions: 3 on port 0, {32 * 257 * 7} on packets in rings\n"),
     (["to0.dpv", "strip.dpv"], ["to0.dpv"], f"the turn of a record takes at most 101 instructions: 5 on port 1, 96 on packets in rings\nring 0 leads to itself{AGAIN}"),
+    # The first of two ports with the same cost, rings that lead to themselves over two others, and one to which the first ring does not lead.
+    (["pass.dpv", "strip.dpv", "strip.dpv"], [], "the turn of a record takes at most 5 instructions: 5 on port 1\n"),
+    (["drop.dpv"], ["to1.dpv", "to2.dpv", "to0.dpv"], "the turn of a record takes at most 98 instructions: 2 on port 0, 96 on packets in rings\n"
+     + "".join(f"ring {k} leads to itself{AGAIN}" for k in range(3))),
+    (["pass.dpv"], ["drop.dpv", "to1.dpv"], f"the turn of a record takes at most 99 instructions: 3 on port 0, 96 on packets in rings\nring 1 leads to itself{AGAIN}"),
     (["strip.dpv"], ["to1.dpv", "late.dpv", "to0.dpv"], "the turn of a record takes at most 133 instructions: 5 on port 0, 128 on packets in rings\n"
      f"ring 0 leads to itself{AGAIN}ring 1 leads to itself{AGAIN}"),
 )
@@ -342,6 +363,12 @@ def costs(ports: list[str], rings: list[str]) -> tuple[str, str]:
     return text, "".join(f"{node} accepted\n" for node, _ in nodes) + "".join(f"{node} takes at most {TAKES[name][1]}\n" for node, name in nodes)
 
 
+def turn_in(said: str) -> dict[str, object]:
+    """The turn of a record, as a document has it, from what is said of it."""
+    found = re.match(r"the turn of a record takes at most (\d+) instructions: \d+ on port (\d)", said)
+    return {"cost": int(found[1]), "loops": [int(it) for it in re.findall(r"^ring (\d) leads to itself", said, re.M)], "port": int(found[2])} if found else {}
+
+
 def cost_cases(program: str, folder: pathlib.Path) -> list[bool]:
     """What check --cost says of these pipelines, and of one with a refused program only the verdict."""
     for name, (text, _) in TAKES.items():
@@ -351,6 +378,10 @@ def cost_cases(program: str, folder: pathlib.Path) -> list[bool]:
         text, first = costs(ports, rings)
         (folder / "cost.toml").write_text(text)
         passed.append(is_said(program, folder, ["check", "cost.toml", "--cost"], 0, first + said, ""))
+        made = subprocess.run([program, "check", "cost.toml", "--cost", "--json"], cwd=folder, capture_output=True, text=True, timeout=60).stdout
+        passed.append(json.loads(made)["turn"] == turn_in(said))
+        if not passed[-1]:
+            print(f"judged: the costs of {ports} and {rings}: {made}")
     sizes = subprocess.run([program, "check", "cost.toml", "--sizes"], cwd=folder, capture_output=True, text=True, timeout=60).stdout
     accepted = "".join(line for line in first.splitlines(keepends=True) if line.endswith(" accepted\n"))
     both = first + said + sizes.removeprefix(accepted)
@@ -422,6 +453,32 @@ def is_built(program: str, folder: pathlib.Path) -> bool:
     return is_said(program, folder, ["explain", "built.toml", "port1"], 1, said, "")
 
 
+# A program with a packet that has no bytes, and with the greatest number of one digit and the least of two; and what a trace says of them.
+NO_BYTES = "set r1,9\nset r2,10\nalloc p1,0,d\nfree p1\nd: free p0\nexit\n"
+SAYS_NO_BYTES = """   0  set r1,9
+      r1 = 9
+   1  set r2,10
+      r2 = 10 (0xa)
+   2  alloc p1,0,d
+      allocation call 2: made
+      p1: 1 segment, 0 bytes, headroom 128, tailroom 2048
+        0 bytes
+   3  free p1
+      p1: none
+"""
+
+
+def says_no_bytes(program: str, folder: pathlib.Path) -> bool:
+    """Whether a trace says so of these instructions."""
+    (folder / "trace.toml").write_text(costs(["pass.dpv"], [])[0].replace("pass", "no_bytes").replace('"a"', '"in.pcap"'))
+    (folder / "no_bytes.dpv").write_text(NO_BYTES)
+    run = subprocess.run([program, "trace", "trace.toml", "--records", "1"], cwd=folder, capture_output=True, text=True, timeout=60)
+    passed = (run.returncode, run.stderr) == (0, "") and f"\n{SAYS_NO_BYTES}   4  d: free p0\n" in run.stdout
+    if not passed:
+        print(f"judged: a packet without bytes: status {run.returncode}, printed\n{run.stdout}reported\n{run.stderr}")
+    return passed
+
+
 def trace_cases(program: str, folder: pathlib.Path) -> list[bool]:
     """What a trace says of two records, and of the first if there is no buffer for its clone."""
     texts = {"writes.dpv": WRITES, "drop.dpv": "free p0\nexit\n", "trace.toml": costs(["pass.dpv"], ["drop.dpv"])[0].replace("pass", "writes").replace('"a"', '"in.pcap"')}
@@ -434,6 +491,7 @@ def trace_cases(program: str, folder: pathlib.Path) -> list[bool]:
     return [
         is_said(program, folder, ["trace", "trace.toml"], 0, said, ""),
         is_said(program, folder, ["trace", "trace.toml", "--records", "1", "--refuse", "2"], 0, refused, ""),
+        says_no_bytes(program, folder),
     ]
 
 
