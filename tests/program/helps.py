@@ -43,6 +43,8 @@ PROGRAMS: list[tuple[bytes, int, int, str, str]] = [
     (b"x\n", 1, 2, NAME, "there is no instruction 'x'"),
     (b"prepned p0,1\n", 1, 2, NAME, "there is no instruction 'prepned'; did you mean 'prepend'?"),
     (b"exit\nfree p0 \xc3\xbc\n", 2, 1, "there is a byte that no program has", "character 9 is not a printable ASCII character"),
+    (b"free\tp0 \xc3\xbc\nexit\n", 1, 1, "there is a byte that no program has", "character 9 is not a printable ASCII character"),
+    (b"exit\n\xef\xbb\xbfexit\n", 2, 1, "there is a byte that no program has", "character 1 is not a printable ASCII character"),
     (b"a: free p0\nb: exit\na: exit\n", 3, 7, "the label was given before", "'a' is the label of line 1, too"),
     (b"a: a: exit\n", 1, 7, "the label was given before", "each label is given once"),
     (b"exit\njmp agan\nagain: exit\n", 2, 8, UNKNOWN, "no line defines the label 'agan'; did you mean 'again'?"),
@@ -163,7 +165,8 @@ CHANGED: list[tuple[bytes, bytes, str, str, str, str]] = [
      "pools are 1 to 8 (here 1), tables 0 to 4 (7), rings 0 to 8 (1), ports 1 to 8 (1)"),
     (b"region =", b"# \xfc\nregion =", "1 NotToml", "the text is not TOML", "", "a pipeline file is UTF-8"),
     *((b"region =", it + b"region =", "1 NotToml", "the text is not TOML", "", "it is a capture: dpv filter PROGRAM it.toml OUT runs a program on it") for it in [HEADER, *MAGIC]),
-    (b"region = 1048576", b"region = 4100", "2 BadKey top 0", KEY, ":1: region = 4100", f"'region' has to be {REGION}"),
+    *((b"region = 1048576", f"region = {it}".encode(), "2 BadKey top 0", KEY, f":1: region = {it}", f"'region' has to be {REGION}") for it in (4100, 4032, 1073741888)),
+    *((b"queue = 4", f"queue = {it}".encode(), "3 BadEnv 4 0", "port 0 is not within the limits", f":23: queue = {it}", f"'queue' has to be {POWER}") for it in (1, 131072)),
     # The first of two keys has its greatest value.
     (b"rules = 4\ngroups = 1", b"rules = 65536\ngroups = -1", "2 BadKey table 0", KEY, ":8: groups = -1", f"'groups' has to be {whole(0, 256)}"),
     (b"count = 8\nshare", b"count = 6\nshare", "3 BadEnv 3 0", "ring 0 is not within the limits", ":11: count = 6", f"'count' has to be {POWER}"),
@@ -321,7 +324,7 @@ port 1 count in 6
 
 
 def is_counted(program: str, folder: pathlib.Path) -> bool:
-    """Whether a run prints these counts by lines, names and drops, after its report."""
+    """Whether a run prints these counts by lines, names and drops, after its report; and whether a document has the names as well."""
     long, short = bytes(60), bytes(19)
     inputs = [[long, short, long, short, long], [long, long, long, short, long, long], [short, short, long, long, long]]
     (folder / "counted").mkdir()
@@ -332,9 +335,12 @@ def is_counted(program: str, folder: pathlib.Path) -> bool:
         (folder / f"counted/in{number}.pcap").write_bytes(capture(*records))
     run = subprocess.run([program, "run", "it.toml", "--source", "--drops"], cwd=folder / "counted", capture_output=True, text=True, timeout=60)
     _, last, counts = run.stdout.partition("calls 21 refused 0\n")
-    passed = (run.returncode, counts, run.stderr) == (0, BY_LINES, "port 0: its transmit list was full 3 times when a packet came: raise its queue\n")
+    made = subprocess.run([program, "run", "it.toml", "--source", "--json"], cwd=folder / "counted", capture_output=True, text=True, timeout=60)
+    named = [f"{it['node']} count {it['name']} {it['packets']}" for it in json.loads(made.stdout).get("named", [])]
+    passed = named == [line for line in BY_LINES.splitlines() if line.startswith("port") and " count " in line]
+    passed = passed and (run.returncode, counts, run.stderr) == (0, BY_LINES, "port 0: its transmit list was full 3 times when a packet came: raise its queue\n")
     if not passed:
-        print(f"helps: counted: expected\n{BY_LINES}came\n{last}{run.stdout}{run.stderr}")
+        print(f"helps: counted: expected\n{BY_LINES}came\n{last}{run.stdout}{run.stderr}{named}")
     return passed
 
 
