@@ -224,6 +224,8 @@ def cures() -> Iterator[Case]:
     """What a user types first, and what helps."""
     for name, (cause, reason, line, cure) in ROUTES.items():
         yield Case(["check", f"{name}_full.toml"], 3, helped(cause, reason, f"{name}_full.toml:{line}", cure), is_whole=True)
+    later = "4 BadTable 1 1 3", "no room for another rule", 'later.toml:13: routes = ["11.0.0.0/8 2", "10.0.0.0/8 1"]'
+    yield Case(["check", "later.toml"], 3, helped(*later, "route 1 is '10.0.0.0/8 1'; rules = 1 is too small for it: raise rules, to at most 65536"), is_whole=True)
     bad = "7 BadCert port 0 line 7 cause 2", "line 7: this is not a line of 306 hexadecimal digits", "bad.cert:7"
     yield Case(["run", "cert.toml"], 3, helped(*bad, "leave out the key cert, or dpv infer cert.toml port0 > bad.cert"), is_whole=True)
     yield Case(["one", "strip.dpv", "bad.cert", "in.pcap", "out"], 3, helped(*bad, "dpv infer-one strip.dpv > bad.cert"), is_whole=True)
@@ -260,6 +262,7 @@ MORE = {
     "marked.txt": "\ufeff10.0.0.0/8 1\n".encode(),
     "tab.txt": "# \u00fc\n10.0.0.0/8\t1\n".encode(),
     "return.txt": b"10.0.0.0/8 1\r",
+    "delete.txt": b"10.0.0.0/8 1\n11.0.0.0/8 1\x7f\n",
     "latin.txt": b"# \xfc\n10.0.0.0/8 1\n",
     "long.txt": bytes(1_048_577),
 }
@@ -285,7 +288,7 @@ def route_files() -> Iterator[Case]:
         cure = "  help: each line is a route, A.B.C.D/DEPTH HOP, or begins with #\n"
         marked = "it begins with a byte-order mark, which editors do not show: save it without one"
         yield Case([command, "routed.toml", "--routes=0=marked.txt"], 3, file("marked.txt", marked) + cure, is_whole=True)
-        for name, line in (("tab.txt", 2), ("return.txt", 1)):
+        for name, line in (("tab.txt", 2), ("return.txt", 1), ("delete.txt", 2)):
             yield Case([command, "routed.toml", f"--routes=0={name}"], 3, file(name, f"line {line} has a character that is not printable ASCII") + cure, is_whole=True)
         yield Case([command, "routed.toml", "--routes=1=latin.txt"], 3, file("latin.txt", "it is not UTF-8") + cure, is_whole=True)
         for name, reason in (("none", system(errno.ENOENT)), ("folder", system(errno.EISDIR)), ("long.txt", "it is longer than 1048576 bytes")):
@@ -305,6 +308,7 @@ def in_folders() -> Iterator[Case]:
         yield Case([command, "beside/program.toml"], 3, program + cure, is_whole=True)
         yield Case([command, "beside/cert.toml"], 3, certificate + cure, is_whole=True)
         yield Case([command, "beside/dir.toml"], 3, node("port 0", "its.dir", missing), is_whole=True)
+        yield Case([command, "beside/rooted.toml"], 3, node("port 0", "/its.dpv", missing), is_whole=True)
         yield Case([command, "beside/nowhere.toml"], 3, node("port 0", "none", missing), is_whole=True)
     for command in ("run", "trace"):
         yield Case([command, "beside/capture.toml"], 3, capture_of + cure, is_whole=True)
@@ -404,6 +408,14 @@ def traces() -> Iterator[Case]:
     yield Case(["trace-one", "strip.dpv", "strip.cert", "in.pcap", "--port", "1"], 2, "error: the pipeline has no port 1\n")
     yield Case(["trace-one", "none", "none", "none", "--port", "8"], 2, "error: '8' is not a port: a number from 0 to 7\n")
     yield Case(["trace-one", "strip.dpv", "strip.cert", "none"], 3, file("none", system(errno.ENOENT)))
+    # Of several wrong words one is reported; and a trace of no records says so only if some were selected.
+    wrong = ["--match=x", "--only=late", "--port=8", "--records=0"]
+    for reported in ("'0' is not a number of records: from 1 to 134217728", "'8' is not a port: a number from 0 to 7",
+                     "'late' is none of sent, freed, refused and cut, and no number of a record"):
+        yield Case(["trace", "none", *wrong], 2, f"error: {reported}\n")
+        wrong = wrong[:-1]
+    yield Case(["trace-one", "strip.dpv", "strip.cert", "no_records.pcap"], 0, "")
+    yield Case(["trace-one", "strip.dpv", "strip.cert", "no_records.pcap", "--only", "1"], 0, unmatched)
 
 
 def in_all(*counts: int) -> str:
@@ -416,6 +428,7 @@ def progress() -> Iterator[Case]:
     one, step = ["one", "--progress", "strip.dpv", "strip.cert"], f"progress: port 0: {MILLION} records read\n"
     yield Case([*one, "many.pcap", "out"], 0, in_all(2000))
     yield Case([*one, "little.pcap", "/dev/null"], 0, step + in_all(MILLION + 1))
+    yield Case([*one, "two_millions.pcap", "/dev/null"], 0, step + step.replace("1", "2") + in_all(2 * MILLION + 1))
     yield Case(["run", "--progress", "million.toml"], 0, step.replace("port 0", "port 1") + in_all(1, MILLION + 1))
     for name in ("little.pcap", "big.pcap"):
         yield Case(["one", *one[2:], name, "/dev/null"], 0, "")
@@ -443,6 +456,9 @@ def drops() -> Iterator[Case]:
     yield Case(["run", "empty.toml"], 0, "pool 0: alloc or clone got no buffers 1 time: raise the count of pool 0\n")
     left = "a turn runs 32 packets from rings at most; let programs put fewer into rings for each record"
     yield Case(["run", "looped.toml"], 0, f"ring 0: 1 packet was left at the end: {left}\n")
+    # The record has 8 of the 65,535 buffers, each with a byte, and the others come into a ring, of which the record's turn runs 32.
+    most = f"ring 0: {65535 - 8 - 32} packets were left at the end: {left}\npool 0: alloc or clone got no buffers 1 time: no pipeline may have more\n"
+    yield Case(["run", "most.toml"], 0, most)
     cut = "it took more than 256 backward jumps, and its packets were freed; --counts shows which loop"
     yield Case(["run", "endless.toml"], 0, f"1 node run was cut: {cut}\n")
     snap = "port 0: 1 record was cut by the capture's snap length: capture with a larger -s\n"
@@ -471,12 +487,17 @@ def make_more(folder: pathlib.Path) -> None:
         "hop": pipeline(["none"], table=table.format("10.0.0.0/8 16777216")),
         "unread_route": pipeline(["none"], table=table.format("10.0.0.0 1")),
         "routed": pipeline(["none"], table=table.replace("1", "2").format("10.0.0.0/8 1") + "[[table]]\nrules = 9\ngroups = 0\nroutes = []\n"),
+        # (the second table has no room for a route that the first one has)
+        "later": pipeline(["none"], table=table.format("10.0.0.0/8 1") + table.format('11.0.0.0/8 2", "10.0.0.0/8 1')),
         "late_full": run_of(["one.pcap", "two.pcap"], ["out0", "/dev/full"]),
         "crossed": run_of(["one.pcap", "kept.pcap"], ["kept.pcap", "out1"]),
         "million": run_of(["one.pcap", "big.pcap"], ["/dev/null", "/dev/null"]),
         "two_links": run_of(["one.pcap", "101.big.pcap"], ["out0", "out1"]),
         "narrow": run_of(["wide.pcap"], ["out0"]).replace("room = 2176", "room = 192"),
         "looped": pipeline(["loop.dpv"], ["loop.dpv"]).replace('in = "none"', 'in = "one.pcap"').replace('out = "none/none"', 'out = "out0"'),
+        "most": "region = 33554432\n" + POOL.replace("count = 4", "count = 65535").replace("2176", "129")
+        + '[[ring]]\ncount = 65536\nshare = 0\nhead = 0\ntail = 0\nfirst = 0\nlast = 0\nsegs = 1\nnode = "drop.dpv"\n'
+        + '[[port]]\npool = 0\nsegs = 64\nqueue = 2\nnode = "most.dpv"\nin = "one.pcap"\nout = "out0"\n',
         "endless": run_of(["one.pcap"], ["out0"]).replace("forward.dpv", "endless.dpv"),
         "empty": run_of(["one.pcap"], ["out0"], 262144).replace("forward.dpv", "empty.dpv").replace("count = 4", "count = 64"),
         "ring_unfit": pipeline(["strip.dpv strip.cert"], ["lost6.dpv strip.cert"]),
@@ -487,6 +508,7 @@ def make_more(folder: pathlib.Path) -> None:
         "beside/program": pipeline(["its.dpv"]),
         "beside/cert": pipeline(["strip.dpv its.cert"]),
         "beside/dir": pipeline(["its.dir"]),
+        "beside/rooted": pipeline(["/its.dpv"]),
         "beside/nowhere": pipeline(["none"]),
         "own_routes": run_of(["one.pcap"], ["kept.txt"]) + table.replace('"{}"', ""),
         "beside/capture": run_of(["its.pcap"], ["out0"]),
@@ -501,6 +523,8 @@ def make_more(folder: pathlib.Path) -> None:
         "large.pcap": HEADER + struct.pack("<IIII", 1, 2, 262_145, 262_145),
         "many.pcap": capture(*(2000 * [bytes(60)])),
         "little.pcap": HEADER + (MILLION + 1) * struct.pack("<IIII", 1, 2, 0, 0),
+        "two_millions.pcap": HEADER + (2 * MILLION + 1) * struct.pack("<IIII", 1, 2, 0, 0),
+        "no_records.pcap": HEADER,
         "big.pcap": struct.pack(">IHHIIII", 0xA1B2C3D4, 2, 4, 0, 0, 262144, 1) + (MILLION + 1) * struct.pack(">IIII", 1, 2, 0, 0),
         "kept.pcap": ONE,
         "closed": ONE,
@@ -514,6 +538,8 @@ def make_more(folder: pathlib.Path) -> None:
         "lost6.dpv": 6 * b"exit\n",
         "loop.dpv": b"enq p0,0,d\nexit\nd: free p0\nexit\n",
         "endless.dpv": b"a: jmp a\n",
+        "most.dpv": b"a: " + 255 * b"alloc p1,0,d\nenq p1,0,f\n" + b"jmp a\nf: free p1\nd: free p0\nexit\n",
+        "drop.dpv": b"free p0\nexit\n",
         # The list of a port has 31 places, and its pool 64 buffers; one is that of the record.
         "full.dpv": 32 * b"clone p1,p0,0,d\ntx p1,r0,f\n" + b"free p0\nexit\nf: free p1\nd: free p0\nexit\n",
         "empty.dpv": 63 * b"alloc p1,0,d\nchain p0,p1\n" + b"alloc p1,0,d\nfree p1\nd: free p0\nexit\n",
