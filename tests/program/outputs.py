@@ -74,6 +74,9 @@ def clashes() -> list[Case]:
     three = [("in.pcap", "a.pcap"), ("in.pcap", "b.pcap"), ("in.pcap", "a.pcap")]
     cases.append(Case(pipeline(three), clash("a.pcap", "a.pcap", WRITTEN)))
     cases.append(Case(pipeline([("in.pcap", "old.pcap"), ("second.pcap", "in.pcap")]), clash("in.pcap", "in.pcap")))
+    # Outputs that do not exist are told apart before one is made, and so before a later one cannot be made; also in the root folder.
+    for first, second in (("new.pcap", "./new.pcap"), (f"/dpv-{os.getpid()}.pcap", f"/../dpv-{os.getpid()}.pcap")):
+        cases.append(Case(pipeline([("in.pcap", first), ("in.pcap", second), ("in.pcap", "none/none")]), clash(second, first, WRITTEN)))
     return cases
 
 
