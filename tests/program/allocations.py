@@ -146,7 +146,8 @@ def limit_files(size: int) -> None:
 
 
 def sends_what_fits(program: str, folder: pathlib.Path, size: int) -> bool:
-    """Whether a run into a file of at most this many bytes reports as sent the records of 46 bytes, of 2,000, that are whole there."""
+    """Whether a run into a file of at most this many bytes reports as sent the records of 46 bytes, of 2,000, that are whole there; a new file that
+    takes none is removed."""
     header, record = 24, struct.pack("<IIII", 1, 2, 60, 60) + bytes(60)
     capture, out = folder / "many.pcap", folder / "fits.pcap"
     capture.write_bytes((STRIP / "in.pcap").read_bytes()[:header] + 2000 * record)
@@ -154,7 +155,7 @@ def sends_what_fits(program: str, folder: pathlib.Path, size: int) -> bool:
     run = subprocess.run(command, capture_output=True, text=True, timeout=60, preexec_fn=lambda: limit_files(size))
     sent = re.search(r" sent (\d+) input ", run.stdout)
     held, whole = out.stat().st_size if out.exists() else 0, max(size - header, 0) // 62
-    passed = (run.returncode, fixed(run.stderr), held, sent and int(sent[1])) == (3, "fault: output 0\n", size, whole)
+    passed = (run.returncode, fixed(run.stderr), held, sent and int(sent[1])) == (3, "fault: output 0\n", size, whole) and out.exists() == (size > 0)
     print(f"dpv one into {size} bytes: status {run.returncode}, reported {run.stderr!r}, sent {sent and sent[1]}" + ("" if passed else f", and not {whole}"))
     return passed
 
