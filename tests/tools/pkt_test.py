@@ -283,6 +283,61 @@ class Errors(unittest.TestCase):
         said = self.said("let x = port\n" + "".join(f"x = (x << 1) ^ eth.type ^ {k}\n" for k in range(400)) + "eth.src = x\nsend port")
         self.assertRegex(said, r"the program has 1\d\d\d instructions, and 1,024 are possible; this line takes \d")
 
+    def test_errors_of_declarations_and_statements(self) -> None:
+        """Each error has the place where what is wrong begins; what is just within a limit compiles."""
+        inside = "header g { kind:16 sum:16 } after eth if eth.type == 5 sum sum payload\nheader odd { a:8 } after g if 1\n"
+        beside = "header a { x:16 sum:16 } after eth if eth.type == 5 sum sum payload\nheader b { y:16 sum:16 } after eth if eth.type > 4 sum sum over a.x\n"
+        news = "".join(f"new h{k} from 0\n" for k in range(7))
+        wanted = {
+            f"{inside}header h {{ x:16 }} after odd if 1\neth.dst = 1\nmend h.x = 5": "5:1: the words of the checksum of g begin at other bytes",
+            f"{beside}\nmend a.x = 1": "4:1: b and a are side by side, and a checksum covers both",
+            "header h { a:8 b:16 c:8 sum:16 } after eth if eth.type == 5 sum sum\n\nmend h.b = 5": "3:1: h.b is neither within one 16-bit word",
+            "header h { a:4 b:64 c:4 }": "1:8: the field b does not lie within 8 bytes",
+            "header h { a:8 b@4:8 }": "1:8: the field b goes past the end of the header",
+            "header h { a:8 } after udp if ipv4.ttl == 5": "1:31: the condition after udp is about fields of udp and constants",
+            "header h { v:8 a:8 } length v for v:8 in 1..3": "1:8: a length of h is less than the 2 bytes of its fields",
+            "header h { a:8 = auto }": "1:8: a is `auto`, and no 16-bit word of the header",
+            "header h { a:8 s:16 b:8 } sum s": "1:8: the checksum s is one 16-bit word of the header",
+            "header h { a:8 a:8 }": "1:16: a is there twice",
+            "header h { a_hi:8 a:128 }": "1:19: a_hi is there twice",
+            "header h { a:8 } after h if h.a == 1": "1:24: a header does not follow itself",
+            "header h { a:8 } length w for v:8 in 1..3": "1:25: a length is calculated from its own variable and constants",
+            "header h { a:16 } length a for a:8 in 2..3": "1:32: a is here the first 8 bits of h, which its field a is not",
+            "header h { a:8 } length v for v:8 in 5..256": "1:41: the last value is from 5 to 255, and this is 256",
+            "header h { a:8 }\nneed eth/h": "2:10: h cannot follow eth",
+            f"{news}\nnew h from 0": "9:1: this needs a ninth packet",
+            "segments 64\nnew h from 0\nchain h before this": "3:1: a packet has at most 64 segments",
+            "new h from 0\nwhile tcp { free h }": "2:1: a round of this loop ends without a packet that it began with",
+            "need ipv4.src + 1 in 10/8": "1:22: how many bits has this number?",
+            "otherwise send ipv4.ttl": "1:11: after `otherwise` is `drop`",
+            "otherwise drop\notherwise drop": "2:1: otherwise is declared twice",
+            "given ipv4": "1:7: a given path begins at byte 0",
+            "given eth/ipv4/tcp": "1:7: a given path begins at byte 0, and each header but the last has one length",
+            "ipv4.ttl = 017": "1:12: 017 begins with 0",
+            "need ipv4.src == 10.0.0.017": "1:18: 017 begins with 0",
+            "need ipv4.src == 10.0.0.256": "1:18: a part of an address is at most 255",
+            "need ipv6.src < ::1": "1:6: IPv6 addresses are compared with == and !=",
+            "push vlan { vid = 1 vid = 2 }": "1:21: vid is given twice",
+            "push vlan { vid = auto }": "1:6: vlan.vid is no 16-bit word of the header",
+            "header h { a:8 b@0:4 }\npush h { a = 1 b = 2 }": "2:6: h.b and h.a have bits in common",
+            "mend 5 = 1": "1:6: a field is expected here, and '5' is none",
+            "let x = 1\nmend x = 2": "2:6: `mend` assigns to a field",
+            "port = 1": "1:1: port is where the packet came from, and is not assigned to",
+            "let x = ipv4.ttl << 64": "1:21: a shift goes by a constant from 0 to 63",
+            "ports 9": "1:7: the number of ports is from 1 to 8, and this is 9",
+            "segments 65": "1:10: the number of segments is from 1 to 64, and this is 65",
+            "ring R = 8": "1:10: the ring is from 0 to 7, and this is 8",
+            "cut 65536": "1:5: the count is from 0 to 65,535, and this is 65,536",
+            "truncate 4097": "1:10: the length is from 0 to 4,096, and this is 4,097",
+        }
+        for source, text in wanted.items():
+            with self.subTest(source):
+                self.assertEqual(self.said(source + "\nsend port").removeprefix("x.pkt:")[: len(text)], text)
+        for source in (news, "segments 63\nnew h from 0\nchain h before this", "header h { v:8 a:8 } length v for v:8 in 2..3", "ports 8\nsegments 64",
+                       "header h { a:8 b@0:4 }\npush h { b = 2 }", "header h { a:4 b:56 c:4 }", "let x = ipv4.ttl << 63", "cut 65535", "truncate 4096"):
+            with self.subTest(source):
+                self.assertGreater(count(source + "\nsend port"), 0)
+
 
 class Slips(unittest.TestCase):
     """Usual slips of those who know other languages: the place, the cure, and that the text compiles when the cure was applied."""
@@ -1316,6 +1371,80 @@ send port"""
         for sign, holds in signs.items():
             self.both(f"if ipv6.src_hi {sign} ipv6.dst_hi {{ send port }}", frames, [it for it, pair in zip(frames, pairs) if holds(*pair)])
             self.both(f"if ipv6.src_hi {sign} 1 << 63 {{ send port }}", frames, [it for it, pair in zip(frames, pairs) if holds(pair[0], 1 << 63)])
+
+    def test_checksums_at_the_ends_of_their_range(self) -> None:
+        """The complement of 0xffff is 0, and that of 0 is 0xffff; a carry may come twice, as in 0x8000 + 0x8000 + 0xffff."""
+        begin = "header h { a:16 b:16 c:16 sum:16=auto }\n"
+        for fields, kind, wanted in (
+            ("a = 0xffff", 0, "ffff 0000 0000 0000"), ("a = 0", 0, "0000 0000 0000 ffff"), ("a = 0xffff b = 0xffff", 0, "ffff ffff 0000 0000"),
+            ("a = 0x8000 b = 0x8000 c = 1", 0, "8000 8000 0001 fffd"), ("a = 0x8000 b = 0x8000 c = eth.type", 0xFFFF, "8000 8000 ffff fffe"),
+            ("c = eth.type", 0, "0000 0000 0000 ffff"), ("c = eth.type", 0xFFFF, "0000 0000 ffff 0000"), ("a = 1 c = eth.type", 0xFFFF, "0001 0000 ffff fffe"),
+        ):
+            self.both(f"{begin}push h {{ {fields} }}\nsend port", [eth(b"", kind)], [bytes.fromhex(wanted) + eth(b"", kind)])
+
+    def test_a_field_that_a_checksum_counts_twice(self) -> None:
+        """The checksum of g is of the header, of what follows it, and of h.f once more: ~(1 + 5 + 5), and ~(1 + 3 + 3) after it."""
+        source = """header h { f:16 } after eth if eth.type == 0x9999
+header g { kind:16 sum:16 } after eth if eth.type == 0x88b5 sum sum payload over h.f
+extend h after g if g.kind == 1
+if g {}
+mend h.f = 3
+send port"""
+        self.both(source, [eth(bytes.fromhex("0001 fff4 0005"), 0x88B5)], [eth(bytes.fromhex("0001 fff8 0003"), 0x88B5)])
+
+    def test_tests_beside_one_another(self) -> None:
+        """What an earlier test leaves open by one value is asked again."""
+        frames = {k: eth(ipv4(17, bytes(8), ttl=k)) for k in (0, 1, 4, 5, 6, 255)}
+        for rules, kept in {
+            "need ipv4.ttl >= 5\nif ipv4.ttl < 6 { drop }\nsend port": (6, 255), "if ipv4.ttl == 5 { drop }\nif ipv4.ttl == 0 { drop }\nsend port": (1, 4, 6, 255),
+            "if ipv4.ttl < 5 { if ipv4.ttl == 4 { send port } drop }\nif ipv4.ttl < 6 { send port }": (4, 5),
+            "if ipv4.ttl == 0 { drop }\nif ipv4.ttl < 2 { send port }": (1,), "if ipv4.ttl > 5 and ipv4.ttl < 255 { send port }": (6,),
+            "if ipv4.ttl <= 5 { if ipv4.ttl >= 5 { send port } }": (5,), "if ipv4.ttl != 4 { if ipv4.ttl == 5 or ipv4.ttl == 4 { send port } }": (5,),
+        }.items():
+            self.both(rules, list(frames.values()), [frames[k] for k in kept])
+        lengths = [bytes(k) for k in (59, 60, 61, 62)]
+        for rules, least, most in (("need length >= 60\nif length < 61 { send port }", 60, 60), ("if length > 60 { drop }\nif length >= 60 { send port }", 60, 60),
+                                   ("need length > 59\nif length > 60 { drop }\nsend port", 60, 60), ("if length < 62 { if length > 60 { send port } }", 61, 61)):
+            self.both(rules, lengths, [it for it in lengths if least <= len(it) <= most])
+
+    def test_what_is_known_of_bytes_moves_with_them(self) -> None:
+        bytes_of = "header two { x:8 y:8 }\nheader four { p:8 q:8 r:8 s:8 }\nheader one { a:8 }\n"
+        self.both(bytes_of + "need two.x == 5\ncut 1\nif two.y == 5 { drop }\nsend port", [b"\5\1\2", b"\5\1\5", b"\6\1\2"], [b"\1\2"])
+        self.both(bytes_of + "need two.y == 5\ncut 1\nif two.y == 5 { drop }\nsend port", [b"\5\5\2", b"\5\5\5"], [b"\5\2"])
+        self.both(bytes_of + "need four.s == 5\npush one { a = 1 }\nif four.r == 5 { drop }\nsend port", [b"\1\2\3\5", b"\1\5\3\5"], [b"\1\1\2\3\5"])
+        self.both(bytes_of + "need four.q == 5\npush one { a = 1 }\nneed four.r == 5\nif four.q == 5 { drop }\nsend port", [b"\1\5\0\0", b"\5\5\0\0"], [b"\1\1\5\0\0"])
+        # What is written to another packet says nothing of this one.
+        frame = eth(b"abc")
+        for rule in ("if eth.type == 5 { drop }\nsend port", "if eth.type == 0x0800 { send port }", "if eth.dst == 0 { drop }\nsend port"):
+            self.both(f"new h from 0\npush eth {{ type = 5 }} on h\n{rule}", [frame], [frame])
+        self.both("need eth.type == 0x0800\nnew h from 0\npush eth { type = 5 } on h\nneed eth.type == 0x0800\nsend port", [frame], [frame])
+
+    def test_the_greatest_values_of_numbers(self) -> None:
+        frames = {k: eth(ipv4(17, bytes(8), ttl=k)) for k in (2, 4, 7, 64)}
+        for number, kept in {"(ipv4.ttl & 4 | 3) == 7": (4, 7), "(ipv4.ttl & 4 ^ 3) == 7": (4, 7), "(ipv4.ttl & 4) + 3 == 7": (4, 7), "(ipv4.ttl & 4) << 1 == 8": (4, 7),
+                             "(ipv4.ttl & 3) * 3 == 9": (7,), "(ipv4.ttl | 3) >> 1 == 3": (4, 7), "(ipv4.ttl ^ 5) < 3": (4, 7), "port | 8 == 8": (2, 4, 7, 64)}.items():
+            self.both(f"if {number} {{ send port }}", list(frames.values()), [frames[k] for k in kept])
+        self.assertGreater(count("let hop = lookup 0 ipv4.dst\nif hop == 0xffffff { drop }\nsend port"), 0)
+        # Port 2 is the first one that is not there.
+        self.both("ports 2\nsend ipv4.ttl & 2 else { send 1 }", [frames[4], frames[2]], [frames[4]], [frames[2]])
+        self.both("ports 2\nlet to = ipv4.ttl & 2\nsend to else { send 1 }", [frames[64], frames[7]], [frames[64]], [frames[7]])
+
+    def test_a_pushed_number_takes_the_place_of_a_default(self) -> None:
+        frame = eth(b"")
+        self.both("push vxlan { flags = 0 vni = 5 }\nsend port", [frame], [bytes.fromhex("0000000000000500") + frame])
+        self.both("push tcp { off = 6 flags = 2 }\nsend port", [frame], [bytes(12) + b"\x60\2" + bytes(6) + frame])
+        self.both("push ipv6 { version = 9 len = 1 next = 59 hops = 2 }\nsend port", [frame], [b"\x90\0\0\0\0\1\x3b\2" + bytes(32) + frame])
+
+    def test_of_two_headers_at_one_byte_the_first_clause_decides(self) -> None:
+        source = """header a { x:16 } after eth if eth.type >= 0x800
+header b { y:8 } after eth if eth.type > 0x100
+header c { z:8 } after b if b.y > 5 after a if a.x > 9
+if b {}
+if a {}
+need c.z == 3
+send port"""
+        frames = [eth(bytes.fromhex(it)) for it in ("070304", "010303", "070403", "060300")]
+        self.both(source, frames, [frames[0], frames[3]])
 
 
 class Passed(unittest.TestCase):
