@@ -35,7 +35,7 @@ def do_mend(way: Way, it: Mend, after: Join[Way], _: Join[Way]) -> None:
         require_even(way, name, own.name)
     assign_field(way, it.target, registers.evaluate(way, it.value))
     is_nested = len(names) > 1 or own.payload and {*over} - {own.name}
-    if not is_nested and id(it) in way.unit.joined:
+    if not is_nested and id(it) in way.unit.joined and is_apart(way, own.name, names, over):
         return way.jump(after)
     difference, sites = Value(register=way.variables[DIFFERENCE]), len(names) + len(over) * (2 if own.bits else 1)
     if sites > 4:
@@ -49,6 +49,14 @@ def do_mend(way: Way, it: Mend, after: Join[Way], _: Join[Way]) -> None:
     ways = [(s, [name]) for s, name in conditions.first_of(way, over, absent, needs)] if way.unit.decides(own, over, way.found) else [(way, over)]
     for s, left in [*ways, *((s, list[str]()) for s in absent.begin())]:
         update_plain(s, own.name, names, left, needs, after)
+
+
+def is_apart(way: Way, own: str, names: list[str], over: list[str]) -> bool:
+    """Whether these checksums are neither within the header that was mended nor looked for by the bytes of another one, which may have the same place:
+    a program that writes `eth.type` between two searches finds both IPv4 and IPv6."""
+    others = {it for name in over if name != own for it in way.headers[name].follows if it != own}
+    ends = [[at + way.headers[name].size for at in way.places(name)] for name in names if name != own]
+    return all(way.found.get(it) is None for it in others) and all(end <= at for found in ends for end, at in zip(found, way.places(own)))
 
 
 def update_plain(way: Way, own: str, names: list[str], over: list[str], needs: Needs, after: Join[Way]) -> None:
