@@ -69,8 +69,11 @@ class Writer:
         # Where a packet is quoted, checksums lie within what others cover.
         self.numbers.likely += ["icmp", "quoted", "inner"] if "quoted" in headers else []
         self.names = 0
-        self.functions: list[str] = []
-        self.left = rng.choice((2, 3, 3, 4, 4, 5, 6, 8, 12))
+        # The parameters of each `def`, and the names of tables, pools, rings and ports by their kind and number.
+        self.functions: dict[str, int] = {}
+        self.named_numbers: dict[tuple[str, int], str] = {}
+        self.left = rng.choice((2, 3, 3, 4, 4, 5, 6, 8, 12, 30, 60) if rng.random() < 0.3 else (2, 3, 3, 4, 4, 5, 6, 8, 12))
+        self.is_long = self.left > 12
         self.whiles = rng.choice((0, 0, 1, 1, 2))
 
     def chance(self, part: float) -> bool:
@@ -82,6 +85,15 @@ class Writer:
         self.names += 1
         return f"{kind}{self.names}"
 
+    def numbered(self, kind: str, number: int) -> str:
+        """The number of a table, a pool, a ring or a port, or its name."""
+        name = self.named_numbers.get((kind, number))
+        return name if name and self.chance(0.7) else str(number)
+
+    def pool(self) -> str:
+        """A pool."""
+        return self.numbered("pool", self.rng.randrange(self.setting.pools))
+
     def number(self, deep: int = 2) -> str:
         """A number."""
         return self.numbers.number(self.rng.randrange(deep + 1))
@@ -90,7 +102,7 @@ class Writer:
         """Some statements, and whether they end the program."""
         lines: Lines = []
         variables, held, ends = len(self.numbers.variables), set(state.held), False
-        for _ in range(self.rng.choice((1, 1, 2, 3) if deep < DEPTH else (2, 3, 4, 6))):
+        for _ in range(self.rng.choice((1, 1, 2, 3) if deep < DEPTH else (20, 40) if self.is_long else (2, 3, 4, 6))):
             if self.left <= 0:
                 break
             self.left -= 1
@@ -244,7 +256,7 @@ class Writer:
         name, read = self.name("c"), self.numbers.field()
         asked = [f"if {read} != 1 {{", f"{INDENT}count {self.name('n')}", "}"]
         write = self.mend(state, deep) or self.put(state, deep)
-        return [f"clone {name} from 1", *asked, f"free {name}", *(write[0] if write else [])], False
+        return [f"clone {name} from {self.numbered('pool', 1)}", *asked, f"free {name}", *(write[0] if write else [])], False
 
     def covered(self) -> list[str]:
         """The fields that some checksum covers and that are one word of it or more."""
@@ -265,7 +277,7 @@ class Writer:
             return None
         name, table = self.name("hop"), self.rng.randrange(self.setting.tables)
         number = self.rng.choice(("ipv4.dst", "ipv4.src", self.number(1)))
-        lines = self.with_else(f"let {name} = lookup {table} {number}", state, deep)
+        lines = self.with_else(f"let {name} = lookup {self.numbered('table', table)} {number}", state, deep)
         self.numbers.variables.append(name)
         return lines, False
 
@@ -291,7 +303,7 @@ class Writer:
         if kind < 0.25:
             return [self.rng.choice(("drop", 'drop "why"'))]
         if kind < 0.3 and (ring := self.ring(state)) is not None:
-            return [f"queue {this}{ring}"]
+            return [f"queue {this}{self.numbered('ring', ring)}"]
         return [f"send {this}{self.port()}"]
 
     def port(self) -> str:
@@ -299,7 +311,7 @@ class Writer:
         kind = self.rng.random()
         if kind < 0.5:
             return "port"
-        return str(self.rng.randrange(self.setting.ports)) if kind < 0.85 else f"({self.numbers.field()} & 3)"
+        return self.numbered("port", self.rng.randrange(self.setting.ports)) if kind < 0.85 else f"({self.numbers.field()} & 3)"
 
     def is_alone(self, state: State) -> bool:
         """Whether the packet shares no buffer, has one segment, and has the headroom that rings require. In a loop, later changes are not known."""
@@ -316,7 +328,7 @@ class Writer:
         fit = [k for k, takes in enumerate(self.setting.rings) if takes == "ipv4"]
         if not fit or not self.is_alone(state):
             return None
-        return ["if ipv4 {", f"{INDENT}queue {self.rng.choice(fit)}", "}"], False
+        return ["if ipv4 {", f"{INDENT}queue {self.numbered('ring', self.rng.choice(fit))}", "}"], False
 
     def final(self, state: State, _deep: int) -> tuple[Lines, bool] | None:
         """The end of the program, or sending the packet with an `else` part."""
@@ -399,7 +411,7 @@ class Writer:
         if len(state.held) >= 5:
             return None
         name = self.name("c")
-        lines = self.with_else(f"clone {name} from {self.rng.randrange(self.setting.pools)}", state, deep)
+        lines = self.with_else(f"clone {name} from {self.pool()}", state, deep)
         state.held[name] = "clone"
         if self.chance(0.7):
             lines += self.release(name, state)
@@ -410,7 +422,7 @@ class Writer:
         if len(state.held) >= 5:
             return None
         name = self.name("n")
-        lines = self.with_else(f"new {name} from 0", state, deep)
+        lines = self.with_else(f"new {name} from {self.numbered('pool', 0)}", state, deep)
         state.held[name] = "new"
         if self.chance(0.7):
             lines += self.pushed(f" on {name}")
@@ -431,7 +443,7 @@ class Writer:
             return [f"chain {name} before this"]
         state.is_lost = state.is_lost or kind == "clone"
         ring = self.loose_ring() if choice < 0.65 else None
-        head = f"queue {name} to {ring}" if ring is not None else f"send {name} to {self.port()}"
+        head = f"queue {name} to {self.numbered('ring', ring)}" if ring is not None else f"send {name} to {self.port()}"
         if choice < 0.8:
             return [f"{head} else free {name}"]
         return [head] if choice < 0.95 else [f"{head} else {self.end(state)[0]}"]
@@ -532,7 +544,7 @@ class Writer:
             lines.append(f"ports {self.setting.ports}")
         if self.setting.segments != 1:
             lines.append(f"segments {self.setting.segments}")
-        lines += self.named()
+        lines += self.names_of_numbers() + self.named()
         for _ in range(self.rng.choice((0, 0, 0, 1, 2))):
             name = self.name("K")
             self.numbers.constants[name] = self.rng.getrandbits(16)
@@ -555,15 +567,39 @@ class Writer:
                 items = [self.numbers.item(field) for _ in range(self.rng.choice((1, 2, 3)))]
             lines.append(f"set {name} = {{{', '.join(items)}}}")
             self.numbers.sets.setdefault(self.numbers.width(field), []).append(name)
-        if self.chance(0.15):
-            name, field = self.name("f"), self.numbers.field()
-            self.numbers.variables += ["a", "b"]
-            body = [f"let c = {self.number()}", f"if a {self.numbers.comparison()} {self.number(1)} {{ count low{name} c ^= b }}"]
-            body += [f"if {field.split('.')[0]} {{ {field} += c }}"] if self.may_write(State()) else []
-            del self.numbers.variables[-2:]
-            lines.append(f"def {name}(a, b) {{ {' '.join(body)} }}")
-            self.functions.append(name)
+        for _ in range(self.rng.choice(FUNCTIONS)):
+            lines += self.function()
         return lines
+
+    def names_of_numbers(self) -> Lines:
+        """Names of tables, pools, rings and ports."""
+        lines = []
+        counts = {"table": self.setting.tables, "pool": self.setting.pools, "ring": len(self.setting.rings), "port": self.setting.ports}
+        for kind, number in [(kind, number) for kind, count in counts.items() for number in range(count)]:
+            if self.chance(0.15):
+                self.named_numbers[kind, number] = self.name(kind.upper())
+                lines.append(f"{kind} {self.named_numbers[kind, number]} = {number}")
+        return lines
+
+    def function(self) -> Lines:
+        """A `def` with up to three parameters: it calculates, counts, writes fields and checksums, or uses an earlier one."""
+        name, field, count = self.name("f"), self.numbers.field(), self.rng.randrange(4)
+        names = [self.name("a") for _ in range(count)]
+        outer, self.numbers.variables = self.numbers.variables, list(names)
+        body = [f"let c = {self.number()}", f"if {self.numbers.compared('c', self.number(1))} {{ count low{name} c ^= {(names or ['5'])[-1]} }}"]
+        self.numbers.variables.append("c")
+        if not self.setting.is_shared:
+            body += [f"if {field.split('.')[0]} {{ {field} += c }}"] if self.chance(0.5) else []
+            body += ["if ipv4 { mend ipv4.src = " + (names or ["c"])[0] + " mend ipv4.dst += c }"] if self.chance(0.3) else []
+        if self.functions and self.chance(0.4):
+            body.append(self.use_of(self.rng.choice(list(self.functions))))
+        self.numbers.variables = outer
+        self.functions[name] = count
+        return [f"def {name}({', '.join(names)}) {{ {' '.join(body)} }}"]
+
+    def use_of(self, name: str) -> str:
+        """The statement that is the block of a `def`."""
+        return f"{name}({', '.join(self.number(1) if self.chance(0.5) else self.numbers.simple() for _ in range(self.functions[name]))})"
 
     def call(self, state: State, _deep: int) -> tuple[Lines, bool] | None:
         """The statements of a `def`, or a counter."""
@@ -571,14 +607,62 @@ class Writer:
             return [f"count {self.name('n')}"], False
         if not self.functions or not state.may_write():
             return None
-        return [f"{self.rng.choice(self.functions)}({self.numbers.simple()}, {self.number(1)})"], False
+        return [self.use_of(self.rng.choice(list(self.functions)))], False
+
+    def held(self, state: State, _deep: int) -> tuple[Lines, bool] | None:
+        """So many variables that a push with many calculated fields has too few registers, unless they are calculated in turn."""
+        if not self.may_write(state) or len(self.numbers.variables) > 3:
+            return None
+        likely = self.rng.sample(("eth.dst", "eth.src", "eth.type", "ipv4.src", "ipv4.len", self.numbers.field()), 6)
+        fields = likely[: self.rng.randrange(2, 7 - len(self.numbers.variables))]
+        names = [self.name("h") for _ in fields]
+        lines = [f"let {name} = {field}" for name, field in zip(names, fields)]
+        state.pushed += 60
+        header = self.rng.choice(("ipv4", "ipv4", "tcp", "ipv6", "arp", *self.own))
+        chosen = [it for it, bits in self.headers[header].fields.items() if not bits.is_alias and it not in ("sum", self.headers[header].next)]
+        texts = []
+        for it in chosen:
+            sums = [f"({self.rng.choice(names)} {self.rng.choice('+-&|^')} {self.numbers.simple()})" for _ in range(3)]
+            value = self.rng.choice((*sums, self.rng.choice(names), self.rng.choice(fields)))
+            if self.headers[header].fields[it].is_needed or self.chance(0.8):
+                texts.append(f"{it} = {value}")
+        first = f"eth {{ dst = {names[-1]} src = {names[0]} }} " if self.chance(0.5) else ""
+        lines.append(f"push {first}{header} {{ {' '.join(texts)} }}".replace("{  }", "{ }"))
+        if self.chance(0.5):
+            lines.append(f"if eth.type == {names[0]} {{ count {self.name('n')} }}")
+        return lines, False
+
+    def retyped(self, state: State, _deep: int) -> tuple[Lines, bool] | None:
+        """Two known headers at one place, since the field that says which one follows changed between two searches."""
+        if not self.may_write(state):
+            return None
+        kinds = {"ipv4": "0x0800", "ipv6": "0x86dd", "arp": "0x0806", "vlan": "0x8100", "mpls": "0x8847", "qinq": "0x88a8"}
+        one, other = ("ipv4", "ipv6") if self.chance(0.4) else self.rng.sample([*kinds], 2)
+        over = self.rng.choice(("eth", "eth", "eth", "vlan"))
+        inner = [f"{over}.type = {kinds[other]}", f"if {other} {{", *indented(self.changes_of(other))]
+        if self.chance(0.4):
+            inner += [f"{INDENT}if {self.rng.choice(('tcp', 'udp', 'l4', 'ipv4', 'vlan'))} {{ count {self.name('n')} }}"]
+        above = self.rng.choice((f" and {self.rng.choice(('tcp', 'udp'))}", "", ""))
+        return [f"if {one}{above} {{", *indented([*inner, "}"]), "}"], False
+
+    def changes_of(self, name: str) -> Lines:
+        """Some assignments to a header in a row, most of them with checksums."""
+        fields, wide, lines = self.covered(), list(self.headers[name].wide), Lines()
+        likely = [it for it in fields if it.split(".")[0] == name] or fields
+        for _ in range(self.rng.choice((1, 2, 2, 3))):
+            target, word = self.rng.choice(likely), self.rng.choice(("mend ", "mend ", "mend ", ""))
+            if wide and self.chance(0.2):
+                lines.append(f"mend {name}.{self.rng.choice(wide)} = {self.rng.choice(SIXES)}")
+            else:
+                lines.append(f"{word}{target} {self.rng.choice(('=', '=', '+='))} {self.value_for(target)}")
+        return lines
 
     def otherwise(self) -> str:
         """What `otherwise` does."""
         ring = self.loose_ring() if self.chance(0.15) else None
         if ring is not None:
-            return f"queue {ring}"
-        return self.rng.choice(("drop", "send port", "send port", "send port", f"send {self.rng.randrange(self.setting.ports)}"))
+            return f"queue {self.numbered('ring', ring)}"
+        return self.rng.choice(("drop", "send port", "send port", "send port", f"send {self.numbered('port', self.rng.randrange(self.setting.ports))}"))
 
 
 def touches(bits: Bits, other: Bits) -> bool:
@@ -586,6 +670,7 @@ def touches(bits: Bits, other: Bits) -> bool:
     return bits.at < other.at + other.count and other.at < bits.at + bits.count
 
 
+FUNCTIONS = (0, 0, 0, 0, 1, 2)
 # What parts the words of a statement; and the makers of those that touch headers and make no name.
 NAMES = re.compile(r"[^A-Za-z0-9_]+")
 GUARDED = (Writer.assign, Writer.put, Writer.mend, Writer.mends, Writer.push, Writer.push_own, Writer.pop)
@@ -618,6 +703,8 @@ MAKERS: list[tuple[Callable[[Writer, State, int], tuple[Lines, bool] | None], fl
     (Writer.tried, 0.5),
     (Writer.tunnel, 0.25),
     (Writer.lent, 0.25),
+    (Writer.held, 0.12),
+    (Writer.retyped, 0.25),
 ]
 
 
