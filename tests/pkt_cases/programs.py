@@ -586,16 +586,17 @@ class Writer:
         name, field, count = self.name("f"), self.numbers.field(), self.rng.randrange(4)
         names = [self.name("a") for _ in range(count)]
         outer, self.numbers.variables = self.numbers.variables, list(names)
-        body = [f"let c = {self.number()}", f"if {self.numbers.compared('c', self.number(1))} {{ count low{name} c ^= {(names or ['5'])[-1]} }}"]
+        body = [f"let c = {self.number()}", f"if {self.numbers.compared('c', self.number(1))} {{"]
+        body += [f"{INDENT}count low{name} c ^= {(names or ['5'])[-1]}", "}"]
         self.numbers.variables.append("c")
         if not self.setting.is_shared:
-            body += [f"if {field.split('.')[0]} {{ {field} += c }}"] if self.chance(0.5) else []
-            body += ["if ipv4 { mend ipv4.src = " + (names or ["c"])[0] + " mend ipv4.dst += c }"] if self.chance(0.3) else []
+            body += [f"if {field.split('.')[0]} {{", f"{INDENT}{field} += c", "}"] if self.chance(0.5) else []
+            body += ["if ipv4 {", f"{INDENT}mend ipv4.src = {(names or ['c'])[0]} mend ipv4.dst += c", "}"] if self.chance(0.3) else []
         if self.functions and self.chance(0.4):
             body.append(self.use_of(self.rng.choice(list(self.functions))))
         self.numbers.variables = outer
         self.functions[name] = count
-        return [f"def {name}({', '.join(names)}) {{ {' '.join(body)} }}"]
+        return [f"def {name}({', '.join(names)}) {{", *indented(body), "}"]
 
     def use_of(self, name: str) -> str:
         """The statement that is the block of a `def`."""
@@ -629,7 +630,7 @@ class Writer:
         first = f"eth {{ dst = {names[-1]} src = {names[0]} }} " if self.chance(0.5) else ""
         lines.append(f"push {first}{header} {{ {' '.join(texts)} }}".replace("{  }", "{ }"))
         if self.chance(0.5):
-            lines.append(f"if eth.type == {names[0]} {{ count {self.name('n')} }}")
+            lines += [f"if eth.type == {names[0]} {{", f"{INDENT}count {self.name('n')}", "}"]
         return lines, False
 
     def retyped(self, state: State, _deep: int) -> tuple[Lines, bool] | None:
@@ -641,7 +642,7 @@ class Writer:
         over = self.rng.choice(("eth", "eth", "eth", "vlan"))
         inner = [f"{over}.type = {kinds[other]}", f"if {other} {{", *indented(self.changes_of(other))]
         if self.chance(0.4):
-            inner += [f"{INDENT}if {self.rng.choice(('tcp', 'udp', 'l4', 'ipv4', 'vlan'))} {{ count {self.name('n')} }}"]
+            inner += indented([f"if {self.rng.choice(('tcp', 'udp', 'l4', 'ipv4', 'vlan'))} {{", f"{INDENT}count {self.name('n')}", "}"])
         above = self.rng.choice((f" and {self.rng.choice(('tcp', 'udp'))}", "", ""))
         return [f"if {one}{above} {{", *indented([*inner, "}"]), "}"], False
 

@@ -126,6 +126,8 @@ def mended(text: str) -> tuple[str, list[tuple[str, int]]]:
 def wrongly_lost(it: Case, port: int, lost: list[tuple[str, int]]) -> Finding | None:
     """A statement of a port's program that control reaches, although the compiler says that it does not."""
     for text, line in lost:
+        if is_in_def(text, line):
+            continue
         source = Source(read(text, PRELUDE))
         world = SourceWorld(it.env, [source if node == port else Source(read("drop", PRELUDE)) for node in range(len(it.texts))])
         with contextlib.suppress(Open):
@@ -133,6 +135,11 @@ def wrongly_lost(it: Case, port: int, lost: list[tuple[str, int]]) -> Finding | 
         if source.reaches(line + 1):
             return Finding("unreached", f"control reaches line {line + 1} of\n{text}")
     return None
+
+
+def is_in_def(text: str, line: int) -> bool:
+    """Whether a line, from 0, is in a `def`, which is compiled for each use: control may come there by another one."""
+    return next((it.startswith("def ") for it in text.splitlines()[line::-1] if not it.startswith((" ", "}"))), False)
 
 
 def prepared(it: Case, tally: Tally) -> Case:
