@@ -453,7 +453,8 @@ class Reader:
         """What a checksum covers."""
         field, has_payload, over = self.word(), self.takes("payload"), []
         if self.takes("over"):
-            while self.token.kind == "name" and self.tokens[self.at + 1].text == ".":
+            # A field and the sign of an assignment are a statement.
+            while self.token.kind == "name" and self.tokens[self.at + 1].text == "." and self.tokens[self.at + 3].text not in ("=", *ASSIGNMENTS):
                 header = self.name()
                 self.want(".")
                 covered = self.field_of(header)

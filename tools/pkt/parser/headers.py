@@ -5,7 +5,7 @@ from ..cures import FIELD
 from ..headers import Header, Span, check
 from ..syntax import Field, Name, Number, Place, Wide, parts, require
 from .expressions import Expressions
-from .grammar import MAX_HEADERS, OTHER_LENGTH
+from .grammar import ASSIGNMENTS, MAX_HEADERS, OTHER_LENGTH
 from .nodes import constant_of, substituted
 from .program import Program
 
@@ -134,7 +134,8 @@ class HeaderDeclarations(Expressions):
     def clause_sum(self, header: Header) -> None:
         header.sum, header.payload, header.over = self.clause_field(header), self.may("payload"), ()
         is_over = self.may("over")
-        while is_over and (not header.over or self.sees_header(".")):
+        # A field and the sign of an assignment are the statement after the declaration.
+        while is_over and (not header.over or self.sees_header(".") and self.place(3).word not in ASSIGNMENTS):
             it = self.field()
             header.over += (it.high, it.low) if isinstance(it, Wide) else (it,)  # type: ignore[assignment]
         header.optional = self.may("optional")
