@@ -1379,8 +1379,11 @@ send port"""
             ("a = 0xffff", 0, "ffff 0000 0000 0000"), ("a = 0", 0, "0000 0000 0000 ffff"), ("a = 0xffff b = 0xffff", 0, "ffff ffff 0000 0000"),
             ("a = 0x8000 b = 0x8000 c = 1", 0, "8000 8000 0001 fffd"), ("a = 0x8000 b = 0x8000 c = eth.type", 0xFFFF, "8000 8000 ffff fffe"),
             ("c = eth.type", 0, "0000 0000 0000 ffff"), ("c = eth.type", 0xFFFF, "0000 0000 ffff 0000"), ("a = 1 c = eth.type", 0xFFFF, "0001 0000 ffff fffe"),
+            ("c = eth.type", 0x1234, "0000 0000 1234 edcb"),
         ):
             self.both(f"{begin}push h {{ {fields} }}\nsend port", [eth(b"", kind)], [bytes.fromhex(wanted) + eth(b"", kind)])
+            one = "header one { x:8 }\npush one { x = 7 }"
+            self.both(f"{begin}{one} h {{ {fields} }}\nsend port", [eth(b"", kind)], [b"\7" + bytes.fromhex(wanted) + eth(b"", kind)])
 
     def test_a_field_that_a_checksum_counts_twice(self) -> None:
         """The checksum of g is of the header, of what follows it, and of h.f once more: ~(1 + 5 + 5), and ~(1 + 3 + 3) after it."""
@@ -1391,6 +1394,9 @@ if g {}
 mend h.f = 3
 send port"""
         self.both(source, [eth(bytes.fromhex("0001 fff4 0005"), 0x88B5)], [eth(bytes.fromhex("0001 fff8 0003"), 0x88B5)])
+        # Where h has a sum too, that of g counts it: ~(1 + 5 + 0xfffa + 5), and ~(1 + 3 + 0xfffc + 3) after it.
+        source = source.replace("{ f:16 }", "{ f:16 sum:16 }").replace("0x9999", "0x9999 sum sum payload")
+        self.both(source, [eth(bytes.fromhex("0001 fff9 0005 fffa"), 0x88B5)], [eth(bytes.fromhex("0001 fffb 0003 fffc"), 0x88B5)])
 
     def test_tests_beside_one_another(self) -> None:
         """What an earlier test leaves open by one value is asked again."""
@@ -1418,12 +1424,38 @@ send port"""
         for rule in ("if eth.type == 5 { drop }\nsend port", "if eth.type == 0x0800 { send port }", "if eth.dst == 0 { drop }\nsend port"):
             self.both(f"new h from 0\npush eth {{ type = 5 }} on h\n{rule}", [frame], [frame])
         self.both("need eth.type == 0x0800\nnew h from 0\npush eth { type = 5 } on h\nneed eth.type == 0x0800\nsend port", [frame], [frame])
+        full = eth(ipv4(17, bytes(8)))
+        self.both("need eth.type == 0x0800\nnew h from 0\npush eth { type = 5 } on h\nif ipv4.src in 8.0.0.0/16 { drop }\nsend port", [full], [full])
+
+    def test_what_is_known_of_bytes_ends_where_others_come(self) -> None:
+        frame = eth(ipv4(17, bytes(8)))
+        self.both("need eth.type == 0x0800\nnew h from 0\npush eth { type = 5 } on h\nchain h before this\nif eth.type == 5 { send port }",
+                  [frame], [bytes(12) + b"\0\5" + frame])
+        self.both("let kind = eth.type\nneed kind == 0x0800\nnew h from 0\npush eth { type = 5 } on h\nchain h before this\neth.dst = eth.type\nsend port",
+                  [frame], [bytes(5) + b"\5" + bytes(6) + b"\0\5" + frame])
+        self.both("header ov { a:64 b:16 c:32 }\nneed vlan\npop vlan\nif ov.b == 0x8100 { drop }\nif ov.c == 0x0a0800 { send port }", [tagged(frame)], [frame])
+        self.both("header ov { a:32 b:16 }\nneed eth.dst == 02:00:00:00:00:0b\npop eth\nif ov.b == 11 { drop }\nsend port", [frame], [frame[14:]])
+        self.both("need eth.type == 0x0800\npush vlan { vid = 7 }\nneed eth.type == 0x8100 and vlan.type == 0x0800\nsend port", [frame], [tagged(frame)])
+
+    def test_a_clone_has_the_bytes_of_the_packet_alone(self) -> None:
+        """After IPv4 options too, where a header was found."""
+        frames = [tcp(2, 22, bytes(4 * k)) for k in (0, 1, 3, 10)]
+        for rule in ("clone c from 1\nsend c to 1", "clone c from 1\ntruncate c 60\nsend c to 1", "clone c from 1\ncut c 14\nsend c to 1"):
+            copies = [it[:60] if "60" in rule else it[14:] if "14" in rule else it for it in frames]
+            self.both(f"ports 2\nneed tcp.dport == 22\n{rule}\nif tcp.sport == 4000 {{ send port }}", [*frames, *(it[:-1] for it in frames)], frames, copies)
 
     def test_the_greatest_values_of_numbers(self) -> None:
         frames = {k: eth(ipv4(17, bytes(8), ttl=k)) for k in (2, 4, 7, 64)}
         for number, kept in {"(ipv4.ttl & 4 | 3) == 7": (4, 7), "(ipv4.ttl & 4 ^ 3) == 7": (4, 7), "(ipv4.ttl & 4) + 3 == 7": (4, 7), "(ipv4.ttl & 4) << 1 == 8": (4, 7),
-                             "(ipv4.ttl & 3) * 3 == 9": (7,), "(ipv4.ttl | 3) >> 1 == 3": (4, 7), "(ipv4.ttl ^ 5) < 3": (4, 7), "port | 8 == 8": (2, 4, 7, 64)}.items():
+                             "(ipv4.ttl & 3) * 3 == 9": (7,), "(ipv4.ttl | 3) >> 1 == 3": (4, 7), "(ipv4.ttl ^ 5) < 3": (4, 7), "port | 8 == 8": (2, 4, 7, 64),
+                             "(ipv4.ttl & ipv4.len) == 4": (4, 7), "ipv4.ttl + ipv4.id == 5": (4,), "(ipv4.ttl | ipv4.id) == 5": (4,), "(ipv4.ttl ^ ipv4.id) == 6": (7,),
+                             "ipv4.ttl - ipv4.id == 3": (4,), "ipv4.version == 4 and ipv4.ihl == 5": (2, 4, 7, 64)}.items():
             self.both(f"if {number} {{ send port }}", list(frames.values()), [frames[k] for k in kept])
+        self.both("let p = ipv4.ttl + 1\nif p == 5 { if p >= 5 { send port } }", list(frames.values()), [frames[4]])
+        self.both("let p = ipv4.ttl + 1\nif p < 6 { if p >= 5 { send port } }", list(frames.values()), [frames[4]])
+        for first, rest in ((1, 7), (3, 13), (7, 1), (1, 31), (9, 55)):
+            known = [((1 << first) - 1 << rest | value).to_bytes((first + rest) // 8, "big") for value in (0, 1)]
+            self.both(f"header h {{ a:{first} b:{rest} }}\nneed h.b == 1\nsend port", known, known[1:])
         self.assertGreater(count("let hop = lookup 0 ipv4.dst\nif hop == 0xffffff { drop }\nsend port"), 0)
         # Port 2 is the first one that is not there.
         self.both("ports 2\nsend ipv4.ttl & 2 else { send 1 }", [frames[4], frames[2]], [frames[4]], [frames[2]])
@@ -1434,6 +1466,19 @@ send port"""
         self.both("push vxlan { flags = 0 vni = 5 }\nsend port", [frame], [bytes.fromhex("0000000000000500") + frame])
         self.both("push tcp { off = 6 flags = 2 }\nsend port", [frame], [bytes(12) + b"\x60\2" + bytes(6) + frame])
         self.both("push ipv6 { version = 9 len = 1 next = 59 hops = 2 }\nsend port", [frame], [b"\x90\0\0\0\0\1\x3b\2" + bytes(32) + frame])
+
+    def test_a_header_after_options_that_is_cut_short_is_absent(self) -> None:
+        for options in (b"", bytes(4), bytes(8), bytes(40)):
+            whole, short = tcp(2, 22, options), tcp(2, 22, options)[:-1]
+            self.both("if l4.dport == 22 { if tcp.flags == 2 { drop } }\nsend port", [whole, short], [short])
+            # The checksum of TCP stays where TCP is absent; that of IPv4 does not.
+            there = eth(ipv4(6, whole[-20:], options, src="198.51.100.1"))
+            self.both("mend ipv4.src = 198.51.100.1\nsend port", [short, whole[:-12]], [there[:-1], there[:-12]])
+
+    def test_an_assignment_after_what_a_checksum_is_over(self) -> None:
+        begin, frame = "header h { a:16 sum:16 } after eth if eth.type == 5 sum sum over eth.type eth.dst\n", eth(b"", 9)
+        self.both(begin + "eth.src = 1\nsend port", [frame], [frame[:6] + bytes(5) + b"\1" + frame[12:]])
+        self.both(begin + "eth.type += 1\nsend port", [frame], [frame[:12] + b"\0\x0a"])
 
     def test_of_two_headers_at_one_byte_the_first_clause_decides(self) -> None:
         source = """header a { x:16 } after eth if eth.type >= 0x800
