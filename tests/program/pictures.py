@@ -252,6 +252,7 @@ def faults(folder: pathlib.Path) -> list[tuple[list[str], int, str]]:
         ([*show, "port0", "--counts", "none.json"], 2, "error: --counts is for a picture: add --dot, or leave it out\n"),
         ([*show, "port0", "--calls"], 2, "error: --calls is for a picture: add --dot, or leave it out\n"),
         (["show-one", "ttl.dpv", "--calls"], 2, "error: --calls is for a picture: add --dot, or leave it out\n"),
+        (["show", "ttl.dpv", "--dot"], 2, "error: ttl.dpv is a program, and no pipeline file: dpv show-one ttl.dpv prints it\n"),
         (["show", "ttl.dpv"], 2, "error: ttl.dpv is a program, and no pipeline file: dpv show-one ttl.dpv prints it\n"),
         (["check", "ttl.toml", "--json", "--sizes"], 2, "error: --sizes is printed as text alone: leave out --json, or --sizes\n"),
         ([*show, "port10"], 2, "error: 'port10' names no node: port or ring, and one digit\n"),
@@ -317,7 +318,14 @@ def are_small(program: str, folder: pathlib.Path) -> list[bool]:
     boxes = {first: (known, end) for first, known, end in re.findall(r'^  L(\d) \[label=.*?<FONT POINT-SIZE="11">(.*?)</FONT>.*?</TABLE>>(.*?)\];$', dead, re.M | re.S)}
     counted = run(program, ["show", "one.toml", "port0", "--dot", "--calls", "--counts", "counts.json"], folder)[1]
     arrows = re.findall(r'^  L(\d+) -> L(\d+) \[style=(\w+), label=" (\d+)", penwidth=([1-8]\.\d)\];$', counted, re.M)
+    # Two jumps of a box to one label, which together are more than the most runs of an instruction.
+    (folder / "jumps.toml").write_text(SMALL["small.toml"].replace("dead.dpv", "jumps.dpv"))
+    (folder / "jumps.dpv").write_text("jeq r1,0,d\njeq r2,0,d\nd: free p0\nexit\n")
+    steps = [{"label": k, "ran": "1024", "taken": taken} for k, taken in enumerate((1024, 1024, None, None))]
+    (folder / "jumps.json").write_text(json.dumps({"counts": {"nodes": [{"node": "port 0", "instructions": steps}]}}))
+    jumps = run(program, ["show", "jumps.toml", "port0", "--dot", "--counts", "jumps.json"], folder)[1]
     passed = {
+        f"the widest arrow: {jumps}": '\n  L0 -> L2 [style=dashed, label=" 2048", penwidth=8.0];\n' in jumps,
         f"the pipeline: {drawn[0]}, {sorted(lines ^ SMALL_LINES)}": (drawn[0], drawn[2], lines) == (1, "", SMALL_LINES) and is_drawn(drawn[1]),
         f"boxes: {boxes}": boxes == {"0": (KNOWN + EMPTY, ""), "1": ('never reached<BR ALIGN="LEFT"/>', ", color=grey, fontcolor=grey"), "2": (KNOWN + EMPTY, "")},
         f"a comment: {dead}": "&#160; free p0</TD>" in dead and "># a &lt;b&gt; &amp; &quot;c&quot;</FONT>" in dead and is_drawn(dead),
