@@ -3,9 +3,9 @@
 
 Usage: tests/program/launched.py [PROGRAM]   (the built program; by default the one that ./dpv builds and runs; some seconds)
 The output may be no file that the compiler reads, under whichever name; the words after -- are operands; a name that the words give is
-kept; wrong words and files that cannot be read are answered as without the launcher; a program that wants more than one port and one pool
-is an error with its place; without the toolchain ./dpv says so, and builds nothing; and no temporary file is left, even if a signal ends the
-run. Prints each case that failed, and a count; exits with 1 if one did.
+kept; wrong words and files that cannot be read are answered as without the launcher; help has its commands, too; a program that wants more
+than one port and one pool is an error with its place; without the toolchain ./dpv says so, and builds nothing; and no temporary file is
+left, even if a signal ends the run. Prints each case that failed, and a count; exits with 1 if one did.
 """
 import os
 import pathlib
@@ -47,6 +47,8 @@ RUN = [
     (["send.pkt", "in.pcap", "out.pcap"], None),
     (["--", "-x.pkt", "in.pcap", "out.pcap"], None),
     (["my -x.pkt", "in.pcap", "out.pcap"], None),
+    (["--counts", "--", "--name=x.pkt", "in.pcap", "out.pcap"], "port 0 --name=x.pkt"),
+    (["--", "--segs=9.pkt", "in.pcap", "out.pcap"], None),
     (["--counts", "send.pkt", "in.pcap", "out.pcap"], "port 0 send.pkt"),
     (["--name", "mine", "send.pkt", "in.pcap", "out.pcap", "--counts"], "port 0 mine"),
     (["send.pkt", "in.pcap", "out.pcap", "--counts", "--name=send.pkt"], "port 0 send.pkt"),
@@ -54,6 +56,14 @@ RUN = [
     (["--segs", "3", "reads.pkt", "in.pcap", "out.pcap"], None),
     (["reads.pkt", "--segs=64", "in.pcap", "out.pcap"], None),
 ]
+# programs whose names look like options
+OPTIONS = ("--name=x.pkt", "--segs=9.pkt")
+# what help says of the launcher's own commands
+COMMANDS = """
+More commands:
+  build FILE.pkt         Compiles a program of the language pkt, and prints the node program
+  compile FILE           Prints the Rattle module with which dpv is built for a pipeline's programs
+"""
 # words, the status, and what standard error has
 WRONG = [
     (["filter", "send.pkt", "in.pcap"], 2, "Usage: dpv filter <PROGRAM> <IN> <OUT>\n"),
@@ -84,7 +94,7 @@ class Launched:
         self.script.write_text(f'#!/bin/sh\nset -eu\nprogram="{program}" pkt="{TOP}/tools/pkt" compiled_nodes="{TOP}/tools/compiled_nodes.py" version= commit=\n. "{TOP}/tools/launch"\nlaunch "$@"\n')
         self.script.chmod(0o755)
         shutil.copy(TOP / "examples/nat/in.pcap", folder)
-        texts = {"send.pkt": SEND, "-x.pkt": SEND, "my -x.pkt": SEND, "includes.pkt": INCLUDES, "net.pkt": NET, "empty.pkt": "", "wrong.pkt": "sned\n"}
+        texts = {"send.pkt": SEND, "-x.pkt": SEND, "my -x.pkt": SEND, **dict.fromkeys(OPTIONS, SEND), "includes.pkt": INCLUDES, "net.pkt": NET, "empty.pkt": "", "wrong.pkt": "sned\n"}
         for name, text in (texts | MORE | {"reads.pkt": READS}).items():
             (folder / name).write_text(text)
         (folder / "bytes.pkt").write_bytes(b"\xff")
@@ -116,6 +126,15 @@ class Launched:
             run = self.begin("filter", "send.pkt", "in.pcap", "-", stdout=out.fileno())
             err = run.communicate(timeout=60)[1]
         return (run.returncode, err.splitlines()[:2]) == (3, ["fault: file -", "  file: send.pkt"]) and (self.folder / "send.pkt").read_text() == SEND
+
+    def helps(self) -> list[bool]:
+        """Whether help has the launcher's commands, and the word help those of a command; without words all of it is an error."""
+        asked_for, wrong, build = self.run("help"), self.run(), self.run("build", "--help")
+        return [
+            (asked_for[0], asked_for[2]) == (0, "") and asked_for[1].endswith(COMMANDS) and self.run("--help") == self.run("-h") == asked_for,
+            wrong[:2] == (2, "") and wrong[2].endswith(COMMANDS),
+            build[0] == 0 and build[1].startswith("Usage: dpv build FILE.pkt > FILE.dpv\n") and self.run("help", "build") == build,
+        ]
 
     def ends(self, seconds: float) -> bool:
         """Whether a signal ends a run that waits for its input, after this time, and nothing is left of it."""
@@ -156,6 +175,7 @@ def main() -> int:
             status, _, err = tried.run(*words)
             cases[" ".join(words)] = status == wanted and text in err
         cases["ended at once"], cases["ended later"] = tried.ends(0.05), tried.ends(3)
+        cases |= {f"help {k}": it for k, it in enumerate(tried.helps())}
         cases["no toolchain"] = lacks_toolchain(folder)
         cases["nothing is left"] = not list(tried.temporary.iterdir())
     for name, is_right in cases.items():

@@ -244,6 +244,9 @@ def faults(folder: pathlib.Path) -> list[tuple[list[str], int, str]]:
     said["none.json"] = "No such file or directory (os error 2)\n"
     again = "count again with the program as it is now: dpv run FILE --counts --json"
     said["short.json"] = f"it has counts of 1 instructions for port 0, whose program has {count}\n  help: {again}\n"
+    steps = [{"label": k, "ran": 1, "taken": None} for k in range(count + 1)]
+    (folder / "long.json").write_text(json.dumps({"counts": {"nodes": [{"node": "port 0", "instructions": steps}]}}))
+    said["long.json"] = f"it has counts of {count + 1} instructions for port 0, whose program has {count}\n  help: {again}\n"
     cases = [([*show, "port0", "--dot", "--counts", str(folder / name)], 3, f"fault: file {folder / name}\n  because: {text}") for name, text in said.items()]
     return [
         *cases,
