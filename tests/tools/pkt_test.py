@@ -1444,6 +1444,14 @@ send port"""
             copies = [it[:60] if "60" in rule else it[14:] if "14" in rule else it for it in frames]
             self.both(f"ports 2\nneed tcp.dport == 22\n{rule}\nif tcp.sport == 4000 {{ send port }}", [*frames, *(it[:-1] for it in frames)], frames, copies)
 
+    def test_a_clone_that_is_cut_has_the_rest_alone(self) -> None:
+        self.both("ports 2\nclone c from 1\ncut c 2\nsend c to 1\nsend port", [b"abcd"], [b"abcd"], [b"cd"])
+
+    def test_a_prefix_of_half_an_ipv6_address(self) -> None:
+        inside, outside = six(17, bytes(8), 7), bytearray(six(17, bytes(8), 7))
+        outside[14 + 8 + 7] = 1
+        self.both("need ipv6.src in 2001:db8::/64\nsend port", [inside, bytes(outside)], [inside])
+
     def test_the_greatest_values_of_numbers(self) -> None:
         frames = {k: eth(ipv4(17, bytes(8), ttl=k)) for k in (2, 4, 7, 64)}
         for number, kept in {"(ipv4.ttl & 4 | 3) == 7": (4, 7), "(ipv4.ttl & 4 ^ 3) == 7": (4, 7), "(ipv4.ttl & 4) + 3 == 7": (4, 7), "(ipv4.ttl & 4) << 1 == 8": (4, 7),
@@ -1628,7 +1636,8 @@ class Reached(unittest.TestCase):
                        "if ipv4.proto == 6 and ipv4.frag == 0 { mend tcp.dport = 5 }", "need eth.src & 1", "need eth.dst & 01:00:00:00:00:00", "while vlan { pop vlan }",
                        f"{pppoe}\nif pppoe.session == 5 {{ drop }}\nneed ipv4", f"{pppoe}\nif pppoe {{}}\nmend ipv4.ttl -= 1",
                        "header h { a:8 } after ipv4 if ipv4.proto == 200 after ipv6 if ipv6.next == 200\nneed h",
-                       "need ipv4.len >= 28\nneed ipv4.len - 28 < 512", "need ipv4.len > 40 and ipv4.len - 40 < 100"):
+                       "need ipv4.len >= 28\nneed ipv4.len - 28 < 512", "need ipv4.len > 40 and ipv4.len - 40 < 100",
+                       "tcp.sum = 0\nmend ipv4.src = 5\ntcp.sum = 7", "cut 4\nif tcp.dport == 80 { drop }"):
             with self.subTest(source):
                 self.assertEqual(compiled(source + "\nsend port").note, "")
         ends = {"if tcp { count web }": "line 1: no packet is sent: all are dropped at the end of the text", "if tcp { count web }\ndrop": "", "drop": "",
@@ -1646,6 +1655,10 @@ class Reached(unittest.TestCase):
             require_filter(parse(source, None))
             with self.assertRaises(SourceError):
                 require_filter(parse(source.translate({48: "1", 49: "0"}), None))
+        require_filter(parse("given headroom 128\nsend port", None))
+        with self.assertRaises(SourceError) as found:
+            require_filter(parse("given headroom 129\nsend port", None))
+        self.assertEqual((found.exception.at.line, found.exception.at.column), (1, 7))
 
 
 class Names(unittest.TestCase):
