@@ -117,6 +117,7 @@ WORDS = [
     (["--json", "two.toml"], 2, "error: unexpected argument '--json' found"),
     (["two.toml", "--routes=0=routes.txt"], 2, "error: unexpected argument '--routes' found"),
     (["-U", "two.toml"], 2, "error: unexpected argument '-U' found"),
+    (["-Ux", "two.toml"], 2, "error: unexpected argument '-U' found"),
     (["--help"], 0, "Prints the Rattle module with which dpv is built for a pipeline's programs"),
     (["-h"], 0, "Prints the Rattle module with which dpv is built for a pipeline's programs"),
 ]
@@ -218,6 +219,17 @@ class Compiling:
             run = subprocess.run([str(self.script), "compile", "all.toml"], cwd=self.folder, stdout=full, stderr=subprocess.PIPE, text=True, timeout=60)
         return (run.returncode, run.stderr) == (3, "fault: standard output cannot be written\n")
 
+    def reads(self) -> list[bool]:
+        """Whether a pipeline file may begin with a dash, `-` is a file of that name, and a program that is read from a pipe is a fault."""
+        self.write(free=FREE)
+        for name in ("-x.toml", "-"):
+            (self.folder / name).write_text(PORTS.format("free.dpv", "free.dpv"))
+        (self.folder / "piped.toml").write_text(PORTS.format("/dev/stdin", "free.dpv"))
+        run = subprocess.run([str(self.script), "compile", "piped.toml"], cwd=self.folder, input=FREE, capture_output=True, text=True, timeout=60)
+        fault = "fault: file /dev/stdin\n  because: it is read twice, so it has to be a plain file\n"
+        module = self.module("free", "free")
+        return [self.run("compile", "--", "-x.toml") == self.run("compile", "-") == (0, module, ""), (run.returncode, run.stdout, run.stderr) == (3, "", fault)]
+
     def helps(self) -> list[bool]:
         """Whether help has the command: that of the launcher, and that of ./dpv, which then builds nothing and needs no toolchain."""
         shown, around = self.run("compile", "--help"), os.environ | {"PATH": f"{pathlib.Path(sys.executable).parent}:/usr/bin:/bin"}
@@ -286,6 +298,7 @@ def cases(compiling: Compiling, folder: pathlib.Path) -> list[tuple[str, bool]]:
     found += [(f"way {k}", compiling.is_written(way)) for k, way in enumerate(WAYS)]
     found += [(f"programs left out {k}", it) for k, it in enumerate(compiling.are_kept())]
     found += [(f"{it.parent.name}/{it.name}", is_of_model(compiling, it)) for it in examples(folder)]
+    found += [(f"files {k}", it) for k, it in enumerate(compiling.reads())]
     found += [(f"words {words}", compiling.says(words, status, line)) for words, status, line in WORDS]
     compiling.make_faults()
     found += [(name, compiling.is_checked(name, *it)) for name, it in FAULTS.items()]
