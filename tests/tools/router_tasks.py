@@ -14,7 +14,7 @@ ME6, CLIENT = ipaddress.ip_address("2001:db8::1").packed, ipaddress.ip_address("
 
 
 def udp_to(data: bytes, door: int, size: int) -> int:
-    """Where the payload of UDP to a port begins, if it has so many bytes; else 0."""
+    """Where the payload of UDP to a port begins, if it has that many bytes; else 0."""
     proto, top = transport(data)
     return top + 8 if proto == 17 and number(data, top + 2, 2) == door and len(data) >= top + 8 + size else 0
 
