@@ -1,10 +1,11 @@
 #!/usr/bin/env python3
-"""Runs the commands of docs/users/tour.md with the built program dpv.
+"""Runs the commands of docs/users/tour.md and the examples of the manual page with the built program dpv.
 
 Usage: tests/program/tour.py [--write] [PROGRAM]   (the built program; by default the one that ./dpv builds and runs)
 In the page's blocks of kind `console` a line after `$ ` is a command, which continues in the lines after `> `; the lines that follow are
 its expected output, on both streams. One shell runs all of them in a copy of examples, with `dpv` for the program. Prints each command that
-printed something else, and exits with 1 if there is one; with --write it updates the page.
+printed something else, and exits with 1 if there is one; with --write it updates the page. Each example of share/dpv.1 begins in the folder
+that has examples, and must print no fault and no error; the one that needs an interface is left out.
 """
 import os
 import re
@@ -17,6 +18,7 @@ import paths  # noqa: F401
 from command import TOP, new_folder, program_of
 
 PAGE = TOP / "docs" / "users" / "tour.md"
+MANUAL = TOP / "share" / "dpv.1"
 BLOCK = re.compile(r"(?<=^```console\n).*?(?=^```$)", re.M | re.S)
 COMMAND = re.compile(r"^\$ .*\n(?:> .*\n|>\n)*", re.M)
 
@@ -24,6 +26,13 @@ COMMAND = re.compile(r"^\$ .*\n(?:> .*\n|>\n)*", re.M)
 def script_of(command: str) -> str:
     """A command as it is typed."""
     return "".join(line[2:] + "\n" for line in command.splitlines())
+
+
+def examples_of(manual: str) -> list[str]:
+    """The examples of the manual page, each as one command, without `dot`, which may be missing."""
+    part = manual.partition(".SH EXAMPLES\n")[2].partition("\n.SH ")[0].replace("\\-", "-")
+    blocks = [block.splitlines() for block in re.findall(r"^\.nf\n(.*?)^\.fi$", part, re.M | re.S) if "tcpdump" not in block]
+    return ["$ (" + "; ".join(re.sub(r" \| dot .*", "", line) for line in block) + ")\n" for block in blocks]
 
 
 def outputs(program: str, commands: list[str]) -> list[str]:
@@ -56,7 +65,12 @@ def main() -> int:
     for command, printed in bad:
         print(f"docs/users/tour.md: {command}prints now:\n{printed}")
     print(f"tour: {len(commands) - len(bad)} commands print what is shown, {len(bad)} do not")
-    return 1 if bad else 0
+    examples = examples_of(MANUAL.read_text())
+    wrong = [(c, it) for c, it in zip(examples, outputs(program, examples), strict=True) if not it or re.search(r"^(?:fault|error): ", it, re.M)]
+    for command, printed in wrong:
+        print(f"share/dpv.1: {command}prints:\n{printed}")
+    print(f"tour: {len(examples) - len(wrong)} examples of the manual page run, {len(wrong)} do not")
+    return 1 if bad or wrong else 0
 
 
 if __name__ == "__main__":
