@@ -68,6 +68,8 @@ More commands:
 WRONG = [
     (["filter", "send.pkt", "in.pcap"], 2, "Usage: dpv filter <PROGRAM> <IN> <OUT>\n"),
     (["filter", "send.pkt", "in.pcap", "out.pcap", "more"], 2, "error: unexpected argument 'more' found\n"),
+    (["filter", "--sorce", "send.pkt", "in.pcap", "out.pcap"], 2, "Usage: dpv filter --source <PROGRAM> <IN> <OUT>\n"),
+    (["filter", "send.pkt", "in.pcap", "out.pcap", "--room"], 2, "error: a value is required for '--room <N>' but none was supplied\n"),
     (["filter", "folder.pkt", "in.pcap", "out.pcap"], 3, "fault: pipeline 5 File port 0\n  file: folder.pkt\n"),
     (["filter", "none.pkt", "in.pcap", "out.pcap"], 3, "fault: pipeline 5 File port 0\n  file: none.pkt\n"),
     (["filter", "bytes.pkt", "in.pcap", "out.pcap"], 3, "bytes.pkt:1: this line is no UTF-8 text\n  help: save the file as UTF-8\n"),
