@@ -605,6 +605,7 @@ class Slips(unittest.TestCase):
          "a clone of it can go on as it was", "ports 2\nclone c from 1\nsend c to port\nnew h from 0\npush eth { } on h\nchain h before this\nsend 1"),
         ("push eth { } zeros { x = 0 }\nsend port", "1:14: a header is expected here, and 'zeros' is none", "header zeros { a:8 } after udp if udp.dport == 7",
          "header zeros { x:32 }\npush eth { } zeros { x = 0 }\nsend port"),
+        ("iflen p0,14,d\nadj p0,14\nd: exit", "1:1: no statement begins with 'iflen'", "dpv filter FILE.dpv IN OUT runs it", "cut 14\nsend port"),
         ("mirror 1\nsend port", "1:1: no statement begins with 'mirror'", "clone c from 1, and send c to 1", "ports 2\nclone c from 1\nsend c to 1\nsend port"),
         ("recompute ipv4.sum\nsend port", "1:1", "sum = auto makes the checksum of a pushed header", "mend ipv4.ttl = 64\nsend port"),
         ("pad 60\nsend port", "1:1", "no statement adds bytes at the end of a packet", "send port"),

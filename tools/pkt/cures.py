@@ -91,6 +91,9 @@ SLIPS = {
     BRACES: "then",
 }  # fmt: skip
 CURES |= {word: cure for cure, words in SLIPS.items() for word in words.split()} | {"\u00a0": "type a plain blank"}
+# The instructions with which a line of a node program may begin, and no statement.
+INSTRUCTIONS = frozenset("iflen iflast ifhead iftail alloc prepend adj trim load store loadx storex mov jmp jeq jlt tx enq".split())
+NODE_PROGRAM = "this is an instruction of a node program, which is not compiled: dpv filter FILE.dpv IN OUT runs it"
 # The cures where a word is wanted, and the next one, one of this kind, or any other is in its place.
 WANTED = {
     "{": BRACES, "{:": BRACES, "{the end of the text": BRACES, "{,": "a list is within braces: x in {1, 2}", "{)": "no parenthesis is open here",

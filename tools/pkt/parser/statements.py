@@ -1,7 +1,7 @@
 """Reads statements: blocks, `else` parts, calls of a `def`, pushed headers, assignments, and all others by the table of their syntax."""
 from collections.abc import Callable
 
-from ..cures import ALONE, CURES, LOOKUP, cure_of, meant
+from ..cures import ALONE, CURES, INSTRUCTIONS, LOOKUP, NODE_PROGRAM, cure_of, meant
 from ..lexer import RESERVED, require_word
 from ..syntax import (
     PORT, PRIME, THIS, Assign, Block, Clone, Count, Drop, Field, Found, If, Inline, Length, Let, Lookup, Mend, Name, Need, New, Node, Number, Place, Pushed,
@@ -278,6 +278,8 @@ class Statements(Expressions):
         before = self.words[self.next - 2][1]
         if before.word == "drop" and before.line == first.line and first.word not in CURES:
             return 'a reason is within double quotes: drop "why"'
+        if first.word in INSTRUCTIONS:
+            return NODE_PROGRAM
         near = meant(first.word, [*STATEMENTS, *DECLARING, *WORDS, "port", *self.functions, *self.names, "mend", "count"], 2)
         other = f"statements begin with {', '.join(STATEMENTS)}, mend, count, or are assignments"
         by_sign = {":": f"write {first.word} = ..", "(": f"def {first.word}() {{ .. }}, before it, gives a block this name"}
