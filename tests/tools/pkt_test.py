@@ -1642,7 +1642,8 @@ class Reached(unittest.TestCase):
             with self.subTest(source):
                 self.assertEqual(compiled(source + "\nsend port").note, "")
         ends = {"if tcp { count web }": "line 1: no packet is sent: all are dropped at the end of the text", "if tcp { count web }\ndrop": "", "drop": "",
-                "otherwise send port\nif tcp { drop }": "", "queue 0": "", "": ""}
+                "otherwise send port\nif tcp { drop }": "", "queue 0": "",
+                "": "line 1: no packet is sent: all are dropped at the end of the text", "const A = 1\nset B = {1}": "line 2: no packet is sent: all", "otherwise send port": ""}
         for source, text in ends.items():
             self.assertEqual(compiled(source).note[: len(text) or None], text)
         rules = "".join(f"need not ipv4.src in 10.0.0.{k}/24\n" for k in range(1, 3)) + "".join(f"ipv4.tos = {k}\n" for k in range(20))

@@ -182,10 +182,10 @@ def without_pieces(program: Program, statements: list[Node]) -> Iterator[Noted]:
 
 
 def sent_nowhere(program: Program) -> Iterator[Noted]:
-    """A program that sends nothing, and does not say so by a `drop` at its end."""
+    """A program that sends nothing, and does not say so by a `drop` at its end; also one without a statement, of which the last line is named."""
     statements = program.statements
-    if statements and goes_on(statements) and not has((statements, program.otherwise), Send):
-        yield statements[-1].at, "no packet is sent: all are dropped at the end of the text; send port sends them, and a `drop` there says that none is"
+    if goes_on(statements) and not has((statements, program.otherwise), Send):
+        yield statements[-1].at if statements else Place(len(program.rows) - 1, 1, ""), "no packet is sent: all are dropped at the end of the text; send port sends them, and a `drop` there says that none is"
 
 
 def sent_to_a_field(statements: list[Node]) -> Iterator[Noted]:
