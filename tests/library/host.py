@@ -6,7 +6,7 @@ FOLDER has libdpv.a and dpv.h, as `./dpv library FOLDER` installs them; by defau
 is built over the crates as `rt ci` left them, which proves its own crate once more. tests/library/wrong_callers.c runs under the C compiler's
 sanitizers, and under valgrind if installed: each call returns what dpv.h says and changes nothing, packed files that are cut at each byte
 open no engine, and all memory is freed; also where malloc refuses memory, and for an engine whose pipeline was not loaded. bench/live/threads.c runs four engines on four threads, with ThreadSanitizer and under valgrind's
-helgrind: they share nothing, and do the same. The hosts have to compile without a warning, and if DPDK is installed, dpdk.c over its net_pcap has
+helgrind: they share nothing, and do the same. The hosts have to compile without a warning, tests/library/sockets.py runs af_packet.c, and if DPDK is installed, dpdk.c over its net_pcap has
 to send for each example the records expected of `dpv run`. Then, for random pipelines, frames in any order of ports, bursts, changes of routes
 and look-ups, all that the library returns and all its counts are compared with tests/model. Prints a line for each finding, and a count; exits with 1 if there is a
 finding.
@@ -31,6 +31,7 @@ from random import Random
 from typing import Any, BinaryIO, NamedTuple
 
 import paths  # noqa: F401
+import sockets
 
 from cases.pipelines import pipeline_files
 from command import TOP
@@ -186,6 +187,15 @@ def costs_refused(host: pathlib.Path, folder: pathlib.Path, before: list[str], a
     return bad
 
 
+def is_refused(host: pathlib.Path, words: list[str], wanted: str) -> bool:
+    """Whether a host refuses its words, and says this."""
+    run = subprocess.run([str(host), *words], cwd=CROSS, capture_output=True, text=True, timeout=60)
+    is_so = run.returncode == 2 and run.stderr.endswith(wanted)
+    if not is_so:
+        print(f"host: {host.name} {' '.join(words)}: status {run.returncode}, {run.stderr[-500:]!r}")
+    return is_so
+
+
 def records_of(capture: pathlib.Path) -> list[bytes]:
     """The bytes of the records of a capture."""
     return [record[2] for record in captures.read(capture.read_bytes()).records]
@@ -207,7 +217,9 @@ def sends_otherwise(host: pathlib.Path, pipeline: pathlib.Path, turns: list[str]
 
 def hosts(library: pathlib.Path, folder: pathlib.Path) -> int:
     """How many of the hosts, and of the examples over DPDK, failed."""
-    findings = costs_refused(compile_host("af_packet", library, folder, []), folder, [], ["0=none_such"])
+    host = compile_host("af_packet", library, folder, [])
+    findings = costs_refused(host, folder, [], ["0=none_such"]) + sockets.run_in_namespace(host)
+    findings += not is_refused(host, ["cross.toml", "1=none_such", "1=lo"], "1=lo: port 1 has an interface already\n")
     words = words_of("libdpdk")
     if words is None:
         print("host: dpdk.c NOT TRIED, since DPDK is not installed")
