@@ -1,7 +1,8 @@
 /* af_packet PIPELINE [OPTION ..] 0=INTERFACE 1=INTERFACE ..: forwards live frames by the node programs of a pipeline, over Linux packet sockets.
 
    Each PORT=INTERFACE connects a port of the pipeline to a network interface. Frames sent by a port without an interface are counted
-   and dropped. SIGUSR1 prints the counts; SIGINT and SIGTERM print them and end the host. It needs CAP_NET_RAW. Options:
+   and dropped. SIGUSR1 prints the counts; SIGINT and SIGTERM print them and end the host. It needs CAP_NET_RAW. An interface that goes down is
+   reported, and used again once it is up. Options:
 
    --control FIFO   takes the commands of control.h from a FIFO, between two bursts
    --max-cost N     ends with status 1 if a run of a program can take more than N instructions
@@ -30,7 +31,7 @@
 static int sockets[MAX_PORTS];
 static const char *names[MAX_PORTS];
 static struct control control = {.fd = -1};
-static uint64_t unsent[MAX_PORTS], too_long;
+static uint64_t unsent[MAX_PORTS], missed[MAX_PORTS], too_long;
 static uint8_t frames[BURST][DPV_MAX_FRAME];
 static size_t besides[BURST][CMSG_SPACE(sizeof(struct tpacket_auxdata)) / sizeof(size_t)]; /* what the kernel says beside a frame */
 
@@ -153,10 +154,23 @@ static void forward_burst(struct lasting *lasting, uint32_t port, struct mmsghdr
     }
 }
 
+/* Prints how many frames the kernel dropped at a port, since its socket was full of frames. It counts those since it was asked last. */
+static void print_missed(uint32_t port)
+{
+    struct tpacket_stats stats;
+    socklen_t size = sizeof stats;
+    if (sockets[port] >= 0 && getsockopt(sockets[port], SOL_PACKET, PACKET_STATISTICS, &stats, &size) == 0)
+        missed[port] += stats.tp_drops;
+    if (missed[port] > 0)
+        printf("port %u missed %" PRIu64 "\n", port, missed[port]);
+}
+
 /* Prints the counts so far. */
 static void print_all(const struct lasting *lasting)
 {
     print_numbers(lasting->engine, lasting->before, unsent);
+    for (uint32_t port = 0; port < MAX_PORTS; port++)
+        print_missed(port);
     if (too_long > 0)
         printf("too long %" PRIu64 "\n", too_long);
     fflush(stdout);

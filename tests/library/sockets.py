@@ -3,8 +3,8 @@
 
 Usage: tests/library/sockets.py HOST   (the built af_packet)
 The host crosses two ports: what comes in at one goes out at the other. Frames have to arrive as they were sent, with all their VLAN tags; none
-of another interface may be among them; an interface that goes down may not keep the host busy, and forwards again once it is up; and a signal
-that comes right before the host waits has to end it. Prints a line for each finding, and a count; exits with 1 if there is a finding. Where this
+of another interface may be among them; those that the kernel drops have to be counted; an interface that goes down may not keep the host busy,
+and forwards again once it is up; and a signal that comes right before the host waits has to end it. Prints a line for each finding, and a count; exits with 1 if there is a finding. Where this
 user may not make namespaces that is said.
 """
 import os
@@ -36,6 +36,8 @@ SOL_PACKET, AUXDATA, TAGGED = 263, 8, 0x10
 # VLAN tags of frames, outermost first.
 TAGS = ((), ((0x8100, 100),), ((0x8100, 0),), ((0x8100, 0xE064),), ((0x88A8, 5), (0x8100, 100)), ((0x8100, 7), (0x8100, 8), (0x8100, 9)))
 SIZES = (46, 1492)
+# More frames than a socket has room for.
+MANY = 20_000
 
 
 def frame(tags: tuple[tuple[int, int], ...], size: int) -> bytes:
@@ -117,6 +119,18 @@ def link_returns(case: Case) -> str | None:
     return None if case.crosses([frame((), 46)]) else "no frame arrives after an interface was down"
 
 
+def drops_are_counted(case: Case) -> str | None:
+    """More frames than the host's socket has room for, while the host does not run."""
+    case.host.send_signal(signal.SIGSTOP)
+    for _ in range(MANY):
+        case.ends[0].send(frame((), 46))
+    case.host.send_signal(signal.SIGCONT)
+    case.host.send_signal(signal.SIGTERM)
+    said = case.host.communicate(timeout=20)[0]
+    missed, came = re.search(r"^port 0 missed (\d+)$", said, re.M), re.search(r"^port 0 received (\d+) ", said, re.M)
+    return None if missed and came and 0 < int(missed[1]) <= MANY - int(came[1]) else f"said of dropped frames: {said}"
+
+
 def ends_by_itself(case: Case) -> str | None:
     """A signal that comes right before the host waits for frames."""
     try:
@@ -131,6 +145,7 @@ CASES: list[tuple[str, bool, Callable[[Case], str | None]]] = [
     ("", False, tags_arrive),
     ("bind", True, others_stay_away),
     ("", False, link_returns),
+    ("", False, drops_are_counted),
     ("poll", False, ends_by_itself),
 ]
 
@@ -147,7 +162,7 @@ def started(host: str, late: str, library: str, is_busy: bool) -> subprocess.Pop
     """The host, once it forwards; while it starts, frames come to another interface if that is to be busy."""
     words = [host, "cross.toml", *(f"{port}={name}" for port, name in enumerate(BOX))]
     around = {**os.environ, "LATE": late, "LD_PRELOAD": library}
-    run = subprocess.Popen(words, cwd=LIVE, env=around, stdout=subprocess.DEVNULL, stderr=subprocess.DEVNULL)
+    run = subprocess.Popen(words, cwd=LIVE, env=around, stdout=subprocess.PIPE, stderr=subprocess.DEVNULL, text=True)
     with socket.socket(socket.AF_PACKET, socket.SOCK_RAW, 0) as other:
         other.bind(("lo", 0))
         while not is_ready(run):
@@ -161,12 +176,11 @@ def started(host: str, late: str, library: str, is_busy: bool) -> subprocess.Pop
 def tried(host: str, late: str, library: str, is_busy: bool, holds: Callable[[Case], str | None]) -> str | None:
     """What is wrong in a case."""
     with opened(ENDS[0]) as first, opened(ENDS[1]) as second:
-        run = started(host, late, library, is_busy)
-        try:
-            return holds(Case(run, (first, second)))
-        finally:
-            run.kill()
-            run.wait()
+        with started(host, late, library, is_busy) as run:
+            try:
+                return holds(Case(run, (first, second)))
+            finally:
+                run.kill()
 
 
 def inside(host: str) -> int:
