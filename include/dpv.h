@@ -21,6 +21,11 @@
 
 #ifdef __cplusplus
 extern "C" {
+/* (dpv_cost and dpv_batch_size are both a call and a struct: of these g++ -Wshadow warns) */
+#ifdef __GNUC__
+#pragma GCC diagnostic push
+#pragma GCC diagnostic ignored "-Wshadow"
+#endif
 #endif
 
 /* An engine. */
@@ -278,6 +283,9 @@ static inline void dpv_pass_burst(dpv_t *engine, uint32_t port, struct dpv_frame
 }
 
 #ifdef __cplusplus
+#ifdef __GNUC__
+#pragma GCC diagnostic pop
+#endif
 }
 #endif
 
