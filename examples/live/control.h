@@ -63,19 +63,20 @@ static inline int parse_command(const char *line, struct command *command)
     return strcmp(line, "stats") == 0;
 }
 
-/* The next command of the FIFO, if a whole line has come. A line that is no command is reported and left out. */
+/* The next command of the FIFO, if a whole line has come. A line that is no command, or too long for one, is reported and left out. */
 static inline int next_command(struct control *control, struct command *command)
 {
     char byte;
     while (read(control->fd, &byte, 1) == 1) {
+        int is_short = control->length < MAX_LINE;
         if (byte != '\n') {
-            if (control->length < MAX_LINE - 1)
+            if (is_short)
                 control->line[control->length++] = byte;
             continue;
         }
-        control->line[control->length] = 0;
+        control->line[is_short ? control->length : MAX_LINE - 1] = 0;
         control->length = 0;
-        if (parse_command(control->line, command))
+        if (is_short && parse_command(control->line, command))
             return 1;
         fprintf(stderr, "control: no command: %s\n", control->line);
     }
