@@ -55,6 +55,19 @@ static inline size_t name_at(const char *text, const char *at, const char **name
     return end == NULL ? 0 : (size_t)(end - at);
 }
 
+/* Where a text goes on after the comment or the string that begins here; after this byte, if neither does. */
+static inline const char *step_over(const char *at)
+{
+    char first = *at++;
+    if (first == '#')
+        return at + strcspn(at, "\n");
+    if (first != '"' && first != '\'')
+        return at;
+    while (*at != 0 && *at != first)
+        at += first == '"' && *at == '\\' && at[1] != 0 ? 2 : 1;
+    return *at == 0 ? at : at + 1;
+}
+
 /* Ends the host if a run of a program can take more instructions than this. What is no program is left to dpv_open, which says why. */
 static inline void check_cost(const char *name, const uint8_t *text, size_t length, uint32_t max_cost)
 {
@@ -97,7 +110,7 @@ static inline struct pipeline read_pipeline(const char *name, uint32_t max_cost)
 {
     struct pipeline pipeline = {name, NULL, NULL, 0, 0};
     pipeline.text = read_file(name, &pipeline.text_length);
-    for (const char *at = (const char *)pipeline.text; *at != 0; at++) {
+    for (const char *at = (const char *)pipeline.text; *at != 0; at = step_over(at)) {
         const char *begin = NULL;
         char path[4096];
         size_t count = name_at((const char *)pipeline.text, at, &begin);
