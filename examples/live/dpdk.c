@@ -2,8 +2,8 @@
 
    Port k of the pipeline is device k of DPDK. Each lcore (-l 0-3) has an engine of its own, and of each device a receive queue and a transmit
    queue, up to as many lcores as each device has queues; a device with several queues hands each flow to one of them (RSS). BURST is how many
-   frames are taken from a queue at once (32); with IDLE an lcore ends after that many rounds without a frame. SIGUSR1 prints the counts; SIGINT
-   and SIGTERM print them and end the host. Options:
+   frames are taken from a queue at once (32; some cards give none to a burst below 4 or 8); with IDLE an lcore ends after that many rounds
+   without a frame. SIGUSR1 prints the counts; SIGINT and SIGTERM print them and end the host. Options:
 
    --control FIFO   a thread takes the commands of control.h from a FIFO, and hands each to every engine over a ring of its own, which is emptied
                     between two bursts
@@ -29,7 +29,7 @@
 #define QUEUE_SLOTS 512
 #define LCORE_MBUFS 8191
 #define POOL_CACHE 256
-#define MAX_FRAME 65536
+#define MAX_FRAME 65536 /* longer ones are none of a card; net_pcap makes them wrongly */
 #define COMMANDS 256
 #define FLOWS (RTE_ETH_RSS_IP | RTE_ETH_RSS_TCP | RTE_ETH_RSS_UDP)
 
@@ -41,6 +41,7 @@ struct worker {
     uint16_t waits[MAX_PORTS];
     struct rte_mbuf *waiting[MAX_PORTS][MAX_BURST];
     uint64_t unsent[MAX_PORTS];
+    uint64_t too_long;
     uint8_t flat[MAX_FRAME];
 } __rte_cache_aligned;
 
@@ -77,21 +78,24 @@ static uint16_t count_lcores(void)
     return count;
 }
 
-/* Opens a device with a queue each way for each lcore. */
+/* Opens a device with a queue each way for each lcore. Frames that are sent may have several segments, which a device may need to know. */
 static void open_device(uint16_t port)
 {
     struct rte_eth_conf conf;
     struct rte_eth_dev_info info;
+    uint16_t receives = QUEUE_SLOTS, sends = QUEUE_SLOTS;
     memset(&conf, 0, sizeof conf);
     check(rte_eth_dev_info_get(port, &info), "information");
     if (lcores > 1 && (info.flow_type_rss_offloads & FLOWS) != 0) {
         conf.rxmode.mq_mode = RTE_ETH_MQ_RX_RSS;
         conf.rx_adv_conf.rss_conf.rss_hf = info.flow_type_rss_offloads & FLOWS;
     }
+    conf.txmode.offloads = info.tx_offload_capa & RTE_ETH_TX_OFFLOAD_MULTI_SEGS;
     check(rte_eth_dev_configure(port, lcores, lcores, &conf), "configure");
+    check(rte_eth_dev_adjust_nb_rx_tx_desc(port, &receives, &sends), "queue sizes");
     for (uint16_t queue = 0; queue < lcores; queue++) {
-        check(rte_eth_rx_queue_setup(port, queue, QUEUE_SLOTS, rte_socket_id(), NULL, pool), "receive queue");
-        check(rte_eth_tx_queue_setup(port, queue, QUEUE_SLOTS, rte_socket_id(), NULL), "transmit queue");
+        check(rte_eth_rx_queue_setup(port, queue, receives, rte_socket_id(), NULL, pool), "receive queue");
+        check(rte_eth_tx_queue_setup(port, queue, sends, rte_socket_id(), NULL), "transmit queue");
     }
     check(rte_eth_dev_start(port), "start");
     (void)rte_eth_promiscuous_enable(port);
@@ -147,12 +151,14 @@ static void keep_batch(void *host, const struct dpv_batch *batch)
     }
 }
 
-/* Passes in a frame, and queues the frames that are sent for it. */
+/* Passes in a frame, and queues the frames that are sent for it. One that is too long is counted. */
 static void forward_frame(struct worker *worker, uint16_t port, struct rte_mbuf *mbuf)
 {
     uint32_t length = rte_pktmbuf_pkt_len(mbuf);
     const uint8_t *bytes = length > MAX_FRAME ? NULL : (const uint8_t *)rte_pktmbuf_read(mbuf, 0, length, worker->flat);
-    if (bytes != NULL)
+    if (bytes == NULL)
+        worker->too_long++;
+    else
         (void)pass_lasting(&worker->lasting, port, bytes, length, rte_rdtsc());
     rte_pktmbuf_free(mbuf);
     if (bytes != NULL)
@@ -184,6 +190,9 @@ static void print_worker(const struct worker *worker)
     if (lcores > 1)
         printf("engine %u\n", worker->queue);
     print_numbers(worker->lasting.engine, worker->lasting.before, worker->unsent);
+    if (worker->too_long > 0)
+        printf("too long %" PRIu64 "\n", worker->too_long);
+    fflush(stdout);
     pthread_mutex_unlock(&printing);
 }
 
@@ -278,6 +287,10 @@ static void open_worker(uint16_t queue)
 static void open_all(void)
 {
     devices = rte_eth_dev_count_avail();
+    if (devices == 0) {
+        fprintf(stderr, "there is no device: name one by -a or --vdev\n");
+        exit(2);
+    }
     lcores = count_lcores();
     for (uint16_t queue = 0; queue < lcores; queue++)
         open_worker(queue);
