@@ -89,6 +89,26 @@ def wrong_callers(library: pathlib.Path, folder: pathlib.Path) -> int:
     return bad
 
 
+# What C and C++ programs may ask a compiler to warn of, and the languages.
+STRICT = ["-Wall", "-Wextra", "-Wconversion", "-Wsign-conversion", "-Wshadow", "-Wcast-qual", "-Wundef", "-pedantic", "-Werror"]
+LANGUAGES = {"c99": ("cc", "gcc", "clang"), "c11": ("cc", "gcc", "clang"), "c++98": ("c++", "g++", "clang++"), "c++17": ("c++", "g++", "clang++")}
+
+
+def strict(library: pathlib.Path, folder: pathlib.Path) -> int:
+    """How many compilers warn of dpv.h alone."""
+    source, bad = folder / "strict.c", 0
+    source.write_text("#include <dpv.h>\nint main(void) { return 0; }\n")
+    ways = [(name, language) for language, names in LANGUAGES.items() for name in names if shutil.which(name)]
+    for name, language in ways:
+        words = [name, "-x", "c++" if language.startswith("c++") else "c", f"-std={language}", *STRICT, f"-I{library}", "-c", str(source)]
+        run = subprocess.run([*words, "-o", str(folder / "strict.o")], capture_output=True, text=True)
+        if run.returncode != 0:
+            bad += 1
+            print(f"host: dpv.h by {name} as {language}: {run.stderr[:1000]}")
+    print(f"host: dpv.h by {len(ways)} compilers and languages, {bad} findings")
+    return bad
+
+
 def threads(library: pathlib.Path, folder: pathlib.Path) -> int:
     """How many runs of four engines on four threads failed."""
     ways, bad = [("ThreadSanitizer", ["-fsanitize=thread"], [], "router/router.toml", "20000")], 0
@@ -129,10 +149,11 @@ send:   set r2,0
 drop:   free p0
         exit
 """,
-    "kept.toml": b"""region = 4194304
+    "kept.toml": b"""# node = "gone.dpv"
+region = 4194304
 pool = [{ count = 2048, cache = 32, room = 512 }]
 ring = [{ count = 1024, share = 2, head = 128, tail = 0, first = 14, last = 0, segs = 1, node = "wait.dpv" }]
-port = [{ pool = 0, segs = 1, queue = 256, node = "enter.dpv", in = "none", out = "none" }]
+port = [{ pool = 0, segs = 1, queue = 256, in = "# none", out = "none \\" # none", node = "enter.dpv" }]
 """,
 }
 
@@ -156,6 +177,41 @@ def lasting(library: pathlib.Path, folder: pathlib.Path) -> int:
             print(f"host: lasting, {pipeline.name} {' '.join(words)}: status {run.returncode}\n{run.stdout[-1000:]}{run.stderr[-2000:]}")
         ended += int(number[1]) if number else 0
     print(f"host: {len(runs)} runs over several engines beside one, {ended} engines ended, {bad} findings")
+    return bad
+
+
+# Lines that a host gets as commands, and each as it takes it, or that it is none.
+COMMANDS = {
+    "stats": "stats",
+    "add 0 10.2.0.0/16 1": "add 0 0a020000/16 1",
+    "  add 3 255.255.255.255/32 16777215  ": "add 3 ffffffff/32 16777215",
+    "add 0 10.2.0.0/16 1" + 108 * " ": "add 0 0a020000/16 1",
+    "add 0 10.2.0.0/16 1" + 110 * " " + "2": None,
+    "add 0 10.2.0.0/16 1 2": None,
+    "add 0 10.2.0.0/16": None,
+    "add 0 10.2.0.256/16 1": None,
+    "add 0 10.2.0/16 1": None,
+    "add 0 10.2.0.0/16x 1": None,
+    "add 0 10.2.0.0/16 1234567890": None,
+    "delete 0 10.2.0.0/16": "delete 0 0a020000/16 0",
+    "delete 0 10.2.0.0/16 1": None,
+    "stats 1": None,
+    "": None,
+}
+
+
+def commands(library: pathlib.Path, folder: pathlib.Path) -> int:
+    """How many of the lines a host takes otherwise."""
+    program = folder / "control_drive"
+    compile_one("control_drive.c", library, program, "-fsanitize=address,undefined", "-fno-sanitize-recover=all", "-D_GNU_SOURCE")
+    bad = 0
+    for line, wanted in COMMANDS.items():
+        run = subprocess.run([str(program)], input=f"{line}\n", capture_output=True, text=True, timeout=60)
+        said = "control: no command: " if wanted is None else ""
+        if (run.returncode, run.stdout) != (0, f"{wanted}\n" if wanted else "") or not run.stderr.startswith(said) or bool(run.stderr) != bool(said):
+            bad += 1
+            print(f"host: command {line!r}: status {run.returncode}, {run.stdout!r}, {run.stderr!r}")
+    print(f"host: {len(COMMANDS)} commands, {bad} findings")
     return bad
 
 
@@ -215,6 +271,19 @@ def sends_otherwise(host: pathlib.Path, pipeline: pathlib.Path, turns: list[str]
     return None
 
 
+def counts_too_long(host: pathlib.Path, folder: pathlib.Path) -> int:
+    """1 if dpdk.c does not count a frame that is longer than it takes."""
+    sizes = (60, 70_000, 60)
+    heads = [struct.pack("<IIII", 0, 0, size, size) + bytes(size) for size in sizes]
+    (folder / "long.pcap").write_bytes(struct.pack("<IHHIIII", 0xA1B2C3D4, 2, 4, 0, 0, 262144, 1) + b"".join(heads))
+    device = f"--vdev=net_pcap0,rx_pcap={folder / 'long.pcap'},tx_pcap={folder / 'long_out.pcap'}"
+    run = subprocess.run([str(host), *NO_CARD, device, "--", "cross.toml", "1", "1000"], cwd=CROSS, capture_output=True, text=True, timeout=60)
+    if run.returncode == 0 and "port 0 received 2 " in run.stdout and "\ntoo long 1\n" in run.stdout:
+        return 0
+    print(f"host: dpdk.c, a frame that is too long: status {run.returncode}, {run.stdout[-500:]} {run.stderr[-500:]}")
+    return 1
+
+
 def hosts(library: pathlib.Path, folder: pathlib.Path) -> int:
     """How many of the hosts, and of the examples over DPDK, failed."""
     host = compile_host("af_packet", library, folder, [])
@@ -225,6 +294,8 @@ def hosts(library: pathlib.Path, folder: pathlib.Path) -> int:
         print("host: dpdk.c NOT TRIED, since DPDK is not installed")
         return findings
     host = compile_host("dpdk", library, folder, words)
+    findings += not is_refused(host, [*NO_CARD, "--", "cross.toml"], "there is no device: name one by -a or --vdev\n")
+    findings += counts_too_long(host, folder)
     findings += costs_refused(host, folder, [*NO_CARD, "--vdev=net_null0,no-rx=1", "--"], ["1", "1"])
     shutil.copytree(TOP / "examples", folder / "examples")
     found = sorted(it for it in (folder / "examples").glob("*/*.toml") if it.parent.name not in ("refused", "live"))
@@ -598,7 +669,7 @@ def main() -> int:
             library = folder / "library"
             put_library(library, asked.gate)
         library = library.resolve()
-        findings = wrong_callers(library, folder) + threads(library, folder) + lasting(library, folder) + hosts(library, folder)
+        findings = wrong_callers(library, folder) + strict(library, folder) + commands(library, folder) + threads(library, folder) + lasting(library, folder) + hosts(library, folder)
         findings += at_random(asked, library, folder) + wrong_headers(asked, library, folder)
     return 1 if findings else 0
 
