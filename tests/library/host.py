@@ -184,7 +184,8 @@ def lasting(library: pathlib.Path, folder: pathlib.Path) -> int:
 COMMANDS = {
     "stats": "stats",
     "add 0 10.2.0.0/16 1": "add 0 0a020000/16 1",
-    "  add 3 255.255.255.255/32 16777215  ": "add 3 ffffffff/32 16777215",
+    "add 3 255.255.255.255/32 16777215  ": "add 3 ffffffff/32 16777215",
+    " stats": None,
     "add 0 10.2.0.0/16 1" + 108 * " ": "add 0 0a020000/16 1",
     "add 0 10.2.0.0/16 1" + 110 * " " + "2": None,
     "add 0 10.2.0.0/16 1 2": None,
