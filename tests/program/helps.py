@@ -44,6 +44,8 @@ PROGRAMS: list[tuple[bytes, int, int, str, str]] = [
     (b"prepned p0,1\n", 1, 2, NAME, "there is no instruction 'prepned'; did you mean 'prepend'?"),
     (b"exit\nfree p0 \xc3\xbc\n", 2, 1, "there is a byte that no program has", "character 9 is not a printable ASCII character"),
     (b"free\tp0 \xc3\xbc\nexit\n", 1, 1, "there is a byte that no program has", "character 9 is not a printable ASCII character"),
+    (b"exit\n  free p0 \xc3\xbc\n", 2, 1, "there is a byte that no program has", "character 11 is not a printable ASCII character"),
+    (b"exit \r \xc3\xbc\n", 1, 1, "there is a byte that no program has", "character 8 is not a printable ASCII character"),
     (b"exit\n\xef\xbb\xbfexit\n", 2, 1, "there is a byte that no program has", "character 1 is not a printable ASCII character"),
     (b"a: free p0\nb: exit\na: exit\n", 3, 7, "the label was given before", "'a' is the label of line 1, too"),
     (b"a: a: exit\n", 1, 7, "the label was given before", "each label is given once"),
@@ -75,7 +77,7 @@ def programs() -> list[tuple[bytes, str]]:
     meant = [(f"{it} p0\n".encode(), 1, 2, NAME, f"there is no instruction '{it}': {own} does it") for own, all_of in MEANT.items() for it in all_of]
     cases = []
     for data, line, cause, reason, cure in PROGRAMS + meant:
-        place = f":{line}: {data.decode().splitlines()[line - 1]}"
+        place = f":{line}: {data.decode().split(chr(10))[line - 1].strip()}"
         cases.append((data, asm(line, cause, f"line {line}: {reason}", place, cure)))
     return cases + [(data, asm(line, cause, reason, "", cure)) for data, reason, line, cause, cure in OTHERS]
 

@@ -219,6 +219,7 @@ def faults(folder: pathlib.Path) -> list[tuple[list[str], int, str]]:
         "null.json": '{"counts": {"nodes": [{"node": "port 0", "instructions": [{"label": 0, "ran": 1}]}]}}',
         "ran.json": '{"counts": {"nodes": [{"node": "port 0", "instructions": [{"label": 0, "ran": -1, "taken": null}]}]}}',
         "taken.json": '{"counts": {"nodes": [{"node": "port 0", "instructions": [{"label": 0, "ran": 1, "taken": 2}]}]}}',
+        "plus.json": '{"counts": {"nodes": [{"node": "port 0", "instructions": [{"label": 0, "ran": "+5", "taken": null}]}]}}',
     }
     for name, text in texts.items():
         if text is not None:
@@ -235,6 +236,7 @@ def faults(folder: pathlib.Path) -> list[tuple[list[str], int, str]]:
         "node.json": "it has no counts of port 0",
         "label.json": "counts.nodes[1].instructions[1].label is not the number of the instruction, from 0",
         "ran.json": f"counts.nodes[0].instructions[0].ran is not {number}",
+        "plus.json": f"counts.nodes[0].instructions[0].ran is not {number}",
         "null.json": "counts.nodes[0].instructions[0].taken is not a number, its digits as a text, or null",
         "taken.json": "counts.nodes[0].instructions[0].taken is not at most ran",
     }

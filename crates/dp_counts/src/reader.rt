@@ -55,6 +55,7 @@ impl fmt::Display for CountsError {
 /// Reads a number below 2^64: a JSON number, or a string of its decimal digits.
 fn number_of(value: &Value) -> Option<u64> {
     match value.as_str() {
+        Some(digits) if digits.starts_with('+') => None,
         Some(digits) => digits.parse::<u64>().ok(),
         None => value.as_u64(),
     }
