@@ -6,6 +6,7 @@ from model import captures
 from model.machine import BIGGEST, Env
 
 from .noise import changed_bytes
+from .writer import address_near
 
 
 def lengths_for(env: Env) -> list[int]:
@@ -17,9 +18,11 @@ def lengths_for(env: Env) -> list[int]:
     return sorted(edge for edge in edges if edge <= captures.LONGEST)
 
 
-def record(rng: Random, length: int) -> bytes:
-    """The bytes of a record."""
+def record(rng: Random, env: Env, length: int) -> bytes:
+    """The bytes of a record; if there are tables, most are addresses near routes."""
     kind = rng.randrange(3)
+    if env.tables and rng.random() < 0.8:
+        return b"".join(address_near(rng, env).to_bytes(4, "big") for _ in range(min(length // 4 + 1, 16))).ljust(length)[:length]
     if kind == 0:
         return rng.randbytes(length)
     return bytes([rng.randrange(256)]) * length if kind == 1 else (bytes(range(256)) * (length // 256 + 1))[:length]
@@ -35,7 +38,7 @@ def capture(rng: Random, env: Env, most: int, sound: bool) -> bytes:
         length = length if length < 5000 or rng.random() < 0.05 else 60
         fraction = rng.choice((0, 1, units - 1, rng.randrange(units)))
         head = struct.pack(order + "IIII", rng.randrange(1 << 32), fraction, length, rng.choice((length, 0, 1 << 31)))
-        data += head + record(rng, length)
+        data += head + record(rng, env, length)
     return data if sound else spoiled(rng, data, order, units)
 
 

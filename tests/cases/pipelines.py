@@ -1,4 +1,5 @@
 """Pipelines: environments, their nodes' files, and the text that names them, right or changed somewhere."""
+from collections.abc import Iterator
 from dataclasses import dataclass
 from random import Random
 from typing import Any
@@ -23,18 +24,29 @@ def fact_of_ring(rng: Random) -> tuple[int, ...]:
     return (rng.choice((0, 0, 1, 2)), *some, rng.choice((1, 2, 64)))
 
 
-def routes_of(rng: Random, number: int) -> list[str]:
-    """Routes with nested prefixes."""
-    depths = (1, 8, 16, 24, 25, 31, 32, rng.randrange(1, 33))
-    address = lambda: ".".join(str(rng.choice((0, 0, 1, 10, 128, 255))) for _ in range(4))
-    return [f"{address()}/{rng.choice(depths)} {rng.choice((0, 1, 2, 255, rules.HIGHEST_HOP))}" for _ in range(number)]
+def routes_of(rng: Random, number: int) -> Iterator[tuple[int, int, int]]:
+    """Addresses, depths and hops of routes: many are near another, so prefixes are nested, replaced, and in one group."""
+    depths = (1, 8, 16, 23, 24, 24, 25, 26, 31, 32, 32, rng.randrange(1, 33))
+    bases = [rng.randrange(1 << 32) for _ in range(rng.choice((1, 2, 4)))]
+    for _ in range(number):
+        apart = rng.choice((0, 1, 128, 255, 256, rng.randrange(1 << 12), 1 << rng.randrange(32)))
+        yield rng.choice(bases) ^ apart, rng.choice(depths), rng.choice((0, 1, 2, 255, rules.HIGHEST_HOP))
 
 
-def tables_of(rng: Random, has_more: bool) -> list[dict[str, Any]]:
+def table_of(rng: Random, takes_all: bool) -> dict[str, Any]:
+    """A table. Of the routes that it has no room for it gets none, or rarely one, unless it takes all."""
+    table = {"rules": rng.choice((1, 4, 16, 64, 65_536)), "groups": rng.choice((0, 1, 2, 8, 256)), "routes": []}
+    known: pipelines.Routes = {}
+    for address, depth, hop in routes_of(rng, rng.choice((0, 2, 6, 20, 60))):
+        if not pipelines.add_route(known, table, address, depth, hop) or not takes_all and rng.random() < 0.1:
+            table["routes"].append(f"{'.'.join(str(byte) for byte in address.to_bytes(4, 'big'))}/{depth} {hop}")
+    return table
+
+
+def tables_of(rng: Random, has_more: bool, takes_all: bool) -> list[dict[str, Any]]:
     """The tables of a pipeline. Each takes 64 MiB, so most have none, unless it has more of them."""
     number = rng.choice((1, 1, 2) if has_more else (0,) * 96 + (1, 1, 2))
-    limits = [(rng.choice((4, 16, 16)), rng.choice((0, 4, 8))) for _ in range(number)]
-    return [{"rules": rules, "groups": groups, "routes": routes_of(rng, rng.randrange(6))} for rules, groups in limits]
+    return [table_of(rng, takes_all) for _ in range(number)]
 
 
 def env_of(rng: Random, tables: list[dict[str, Any]]) -> Env:
@@ -82,7 +94,7 @@ def node_files(rng: Random, parts: Parts, place: int, sound: bool) -> dict[str, 
 
 def parts_of(rng: Random, sound: bool, has_tables: bool) -> Parts:
     """A pipeline and its programs."""
-    tables = tables_of(rng, has_tables)
+    tables = tables_of(rng, has_tables, sound)
     env = env_of(rng, tables)
     region = max(4096, env.need()) + rng.choice((0, 0, 64, 4096, -64 if rng.random() < 0.3 else 0))
     parts = Parts({"region": max(region, 4096)}, env, {})

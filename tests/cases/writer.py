@@ -8,7 +8,8 @@ WIDTHS = (1, 2, 4, 8)
 LENGTHS = (0, 1, 2, 3, 4, 7, 8, 13, 14, 15, 16, 20, 34, 60, 63, 64, 65, 127, 128, 129, 130, 256, 2047, 2048, 2049, 65_535)
 CONSTANTS = (*LENGTHS, 255, 0x0A0B0C0D, 2**32 - 1, 2**32, 2**63, BIGGEST - 1, BIGGEST)
 USUAL = {"alloc": 6, "clone": 12, "free": 3, "chain": 9, "resize": 16, "test": 12, "bytes": 22, "number": 12, "branch": 8}
-MOVES = {**USUAL, "lookup": 2, "tx": 6, "enq": 6, "place": 8, "head": 3, "fork": 4, "weaken": 2}
+MOVES = {**USUAL, "lookup": 30, "tx": 6, "enq": 6, "place": 8, "head": 3, "fork": 4, "weaken": 2}
+NO_TABLE = {**MOVES, "lookup": 0}
 
 
 class Writer:
@@ -74,9 +75,10 @@ class Writer:
 
     def step(self) -> None:
         """One move."""
-        move = self.rng.choices(list(MOVES), list(MOVES.values()))[0]
+        moves = MOVES if self.env.tables else NO_TABLE
+        move = self.rng.choices(list(moves), list(moves.values()))[0]
         p = self.any_packet()
-        if p is not None or move in ("alloc", "number", "branch", "lookup", "place", "head", "weaken"):
+        if p is not None or move in ("alloc", "number", "branch", "place", "head", "weaken"):
             getattr(self, "move_" + move)(p)
 
     def move_alloc(self, _p: int | None) -> None:
@@ -137,9 +139,19 @@ class Writer:
         else:
             self.emit(word, r, max(self.constant(), 1))
 
-    def move_lookup(self, _p: int | None) -> None:
-        if self.env.tables:
-            self.emit("lookup", self.rng.randrange(8), self.rng.randrange(len(self.env.tables)), self.rng.randrange(8))
+    def move_lookup(self, p: int) -> None:
+        """Looks up bytes of a packet, an address near a route, or whatever a register has; often the hop is written to the packet."""
+        r, s, table = self.rng.randrange(8), self.rng.randrange(8), self.rng.randrange(len(self.env.tables))
+        how, first = self.rng.randrange(5), self.row.facts[p].first
+        if how < 3 and first < 4:
+            self.emit("iflen", p, self.rng.choice((4, 8, 20)))
+        if how < 3:
+            self.emit("load", s, p, 4 * self.rng.randrange(max(self.row.facts[p].first // 4, 1)), self.rng.choice((4, 4, 4, 8)))
+        elif how == 3:
+            self.emit("set", s, address_near(self.rng, self.env) + self.rng.choice((0, 1 << 32)))
+        self.emit("lookup", r, table, s)
+        if self.rng.random() < 0.5:
+            self.emit("store", p, self.length(max(self.row.facts[p].first - 4, 0)), 4, r)
 
     def move_tx(self, p: int) -> None:
         r = self.rng.randrange(8)
@@ -232,6 +244,12 @@ class Writer:
             Instr(word, (*args[:-1], self.placed[args[-1]])) if word in rules.JUMPS else Instr(word, args) for word, args in self.code
         ]
         return code, self.rows
+
+
+def address_near(rng: Random, env: Env) -> int:
+    """The address of a route, or one that differs in a bit."""
+    prefixes = [prefix for table in env.tables for prefix, _ in table]
+    return rng.choice(prefixes or [0]) ^ rng.choice((0, 0, 1 << rng.randrange(8), 1 << rng.randrange(32)))
 
 
 def program(rng: Random, env: Env, place: int) -> tuple[list[Instr], rules.Rows]:
