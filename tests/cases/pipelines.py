@@ -9,7 +9,7 @@ from model.machine import Env, Pool, Port, Ring
 
 from .certs import cert_of
 from .noise import changed_bytes
-from .programs import any_instr, changed_program, changed_text, text_of
+from .programs import any_instr, changed_program, changed_text, refused_program, text_of
 from .toml import is_array, toml_of
 from .writer import program
 
@@ -78,7 +78,9 @@ def node_files(rng: Random, parts: Parts, place: int, sound: bool) -> dict[str, 
     """Makes the program of a node and its certificate, if one is named, and returns the keys that name them."""
     wrong = rng.choice((0, 0, 0, 1, 1, 2, 2, 2, 3)) if not sound and rng.random() < 0.9 / len(parts.env.ports) else -1
     code, rows = program(rng, parts.env, place)
-    if wrong == 0:
+    if wrong == 0 and rng.random() < 0.5:
+        code, rows = refused_program(rng, parts.env, code, rows)
+    elif wrong == 0:
         code = [any_instr(rng, 6) for _ in range(6)] if rng.random() < 0.3 else changed_program(rng, code)
         rows = rows if len(rows) == len(code) and rng.random() < 0.5 else None
     text = text_of(rng, code)

@@ -4,7 +4,7 @@ from collections.abc import Callable
 from random import Random
 
 from model import programs, rules
-from model.machine import Instr, Number
+from model.machine import Env, Instr, Number
 
 from .noise import changed_bytes
 from .writer import CONSTANTS, WIDTHS
@@ -58,6 +58,17 @@ def changed_program(rng: Random, code: list[Instr]) -> list[Instr]:
         args = (*args[:k], near if fits and rng.random() < 0.6 else any_operand(rng, kind, len(code)), *args[k + 1 :])
         code[at] = Instr(word, args)
     return code
+
+
+def refused_program(rng: Random, env: Env, code: list[Instr], rows: rules.Rows) -> tuple[list[Instr], rules.Rows]:
+    """A program and its rows with an instruction put in that one of the rules J3 to J10 refuses; without it, if none was found."""
+    rule, live = rng.randrange(3, 11), [at for at, row in enumerate(rows) if row is not None]
+    for _ in range(300):
+        at, instr = rng.choice(live), any_instr(rng, len(code) + 1)
+        if rules.local_fault(env, rows[at], at, instr, len(code) + 1) == rule:
+            code = [moved(it, lambda label: label + (label > at)) for it in code]
+            return [*code[:at], instr, *code[at:]], [*rows[:at], rows[at], *rows[at:]]
+    return code, rows
 
 
 def moved(instr: Instr, to: Callable[[int], int]) -> Instr:
