@@ -8,7 +8,7 @@ WIDTHS = (1, 2, 4, 8)
 LENGTHS = (0, 1, 2, 3, 4, 7, 8, 13, 14, 15, 16, 20, 34, 60, 63, 64, 65, 127, 128, 129, 130, 256, 2047, 2048, 2049, 65_535)
 CONSTANTS = (*LENGTHS, 255, 0x0A0B0C0D, 2**32 - 1, 2**32, 2**63, BIGGEST - 1, BIGGEST)
 USUAL = {"alloc": 6, "clone": 12, "free": 3, "chain": 9, "resize": 16, "test": 12, "bytes": 22, "number": 12, "branch": 8}
-MOVES = {**USUAL, "lookup": 30, "tx": 6, "enq": 6, "place": 8, "head": 3, "fork": 4, "weaken": 2}
+MOVES = {**USUAL, "lookup": 30, "tx": 6, "enq": 6, "flood": 2, "place": 8, "head": 3, "fork": 4, "weaken": 2}
 NO_TABLE = {**MOVES, "lookup": 0}
 
 
@@ -160,14 +160,26 @@ class Writer:
         self.emit("tx", p, r)
 
     def move_enq(self, p: int) -> None:
-        if not self.env.rings:
-            return
-        ring = self.rng.randrange(len(self.env.rings))
+        if self.env.rings:
+            self.enq(p, self.rng.randrange(len(self.env.rings)))
+
+    def enq(self, p: int, ring: int) -> None:
+        """Puts a packet in a ring, after tests of what the ring declares."""
         fact, mine = rules.Fact(*self.env.rings[ring].fact), self.row.facts[p]
         for word, part in (("ifhead", "head"), ("iftail", "tail"), ("iflen", "first"), ("iflast", "last")):
             if getattr(mine, part) < getattr(fact, part):
                 self.emit(word, p, getattr(fact, part))
         self.emit("enq", p, ring)
+
+    def move_flood(self, p: int) -> None:
+        """As many clones of a packet to a ring as it has slots, so that it is full if there are buffers for them."""
+        small = [k for k, ring in enumerate(self.env.rings) if ring.count <= 4 and ring.fact[0] == 0]
+        ring, pool = self.rng.choice(small or [0]), self.rng.randrange(len(self.env.pools))
+        for _ in range(self.env.rings[ring].count if small else 0):
+            target = self.free_register()
+            if target is not None:
+                self.emit("clone", target, p, pool)
+                self.enq(target, ring)
 
     def move_place(self, _p: int | None) -> None:
         fitting = [label for label, row in self.waiting.items() if rules.are_held_alike(row, self.row)]
