@@ -157,8 +157,23 @@ def named_lines(doc: dict[str, Any]) -> list[str]:
 
 def printed_lines(text: str) -> list[str]:
     """The counts that dpv prints, likewise: lines of sources without an instruction begin with blanks."""
-    kept = [line for line in text.splitlines() if line.strip() and not line.startswith(" " * 20)]
+    kept = [line for line in text.split("\n") if line.strip() and not line.startswith(" " * 20)]
     return [" ".join(line.replace("#", " # ", 1).split()) for line in kept]
+
+
+def verdict_text(doc: dict[str, Any]) -> str:
+    """The verdicts in a document, as dpv prints them."""
+    lines = [it["node"] + (" accepted" if it["verdict"] == "accepted" else f" {it['verdict']} at {it['label']} by {it['rule']}") for it in doc["nodes"]]
+    return "".join(line + "\n" for line in lines)
+
+
+def says(doc: dict[str, Any], printed: str) -> bool:
+    """Whether a document has what was printed as text: verdicts, or a report, with or without counts, or nothing."""
+    if "ports" not in doc:
+        return printed == (verdict_text(doc) if "nodes" in doc else "")
+    report = report_text(doc)
+    rest = printed_lines(printed[len(report):])
+    return printed.startswith(report) and rest == (counts_lines(doc) if "counts" in doc else [])
 
 
 def sums_agree(doc: dict[str, Any]) -> bool:
@@ -199,13 +214,8 @@ def is_same_run(program: str, folder: pathlib.Path, words: list[str]) -> bool:
     doc = document(made.out)
     counted = "--counts" in words
     printed = text.out.decode()
-    report = report_text(doc)
     passed = (made.status, made.err, written(folder)) == (text.status, text.err, captures)
-    passed = passed and printed.startswith(report) and ("counts" in doc) == counted
-    if counted:
-        passed = passed and counts_lines(doc) == printed_lines(printed[len(report):]) and sums_agree(doc)
-    else:
-        passed = passed and printed == report
+    passed = passed and says(doc, printed) and ("counts" in doc) == counted and (not counted or sums_agree(doc))
     if doc["fault"] is None:
         return passed and made.status == 0
     return passed and made.status == doc["fault"]["status"] and made.err.decode().splitlines()[0] == doc["fault"]["text"]

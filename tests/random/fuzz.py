@@ -9,10 +9,10 @@ programs. PROGRAM is by default the one that ./dpv builds and runs.
 tests/model computes the expected result of a case from the files alone: the status, both outputs, and each byte that is written; so the
 texts are those of docs/, outputs are whole captures, and all buffers are free at the end. No other file is written. A fourth of the cases
 run once more, in one of these ways, with the same result: as they are; without caches, if pools have some; with reads and writes of a few
-bytes each. Or an allocation is refused: then a case does the same, or reports it with status 4 and has written nothing or all. No case may
-take more than a minute of processor time, half an hour by the clock, or 3 GiB of memory. Each finding is kept in its own folder: the files,
-the words, the expected and the actual result; `--again` tries such a folder once more. Prints a line for each, and a count; exits with 1 if
-there is a finding.
+bytes each; with --json, where the document has what the text has. Or an allocation is refused: then a case does the same, or reports it with
+status 4 and has written nothing or all. No case may take more than a minute of processor time, half an hour by the clock, or 3 GiB of memory.
+Each finding is kept in its own folder: the files, the words, the expected and the actual result; `--again` tries such a folder once more.
+Prints a line for each, and a count; exits with 1 if there is a finding.
 """
 import argparse
 import contextlib
@@ -38,6 +38,7 @@ import paths  # noqa: F401
 
 from cases import MAKERS, Case, Family
 from command import fixed, program_of, put_library
+from json_output import document, says
 from model import answers, machine
 
 MAX_SECONDS = 60
@@ -263,14 +264,29 @@ def runs_refused(place: Place, case: Case, ended: Ended, more: dict[bytes, bytes
     return None if same else f"allocation {more[b'REFUSE'].decode()} refused: {ended[:3]}, then {refused[:3]}"
 
 
+def runs_as_document(place: Place, case: Case, ended: Ended) -> str | None:
+    """What is wrong if a case, run once more with --json, does something else, or its document has something else than the text."""
+    made = place.run([*case.words, "--json"])
+    if made._replace(printed=ended.printed)[:4] != ended[:4]:
+        return f"another answer with --json: {ended[:3]}, then {made[:3]}"
+    if ended.status == 2:
+        return made.printed and f"a document for wrong words: {made.printed!r}"
+    doc, fault = document(made.printed.encode()), None
+    if ended.status > 2:
+        fault = {"status": ended.status, "text": ended.reported.split("\n")[0]}
+    return None if doc["fault"] == fault and says(doc, ended.printed) else f"another document: {ended[:3]}, then {made.printed!r}"
+
+
 def runs_once_more(place: Place, case: Case, ended: Ended, how: str, number: int, shims: pathlib.Path | None) -> str | None:
-    """What is wrong with a case, run once more: as it is or without caches, with this many bytes a call, or with this allocation refused."""
+    """What is wrong with a case, run once more: as it is or without caches, with this many bytes a call, with this allocation refused, or as a document."""
     place.put_case(case)
     value = str(number).encode()
     if how == "short" and shims is not None:
         return runs_with_short_calls(place, case, ended, f"with {number} bytes a call", {b"LD_PRELOAD": bytes(shims / "short.so"), b"MOST": value})
     if how == "refused" and shims is not None:
         return runs_refused(place, case, ended, {b"LD_PRELOAD": bytes(shims / "refused.so"), b"REFUSE": value})
+    if how == "json" and case.kind in ("one", "check", "run"):
+        return runs_as_document(place, case, ended)
     return runs_without_cache(place, case, ended)
 
 
@@ -279,7 +295,7 @@ def judge(place: Place, case: Case, rng: Random, tally: Tally, shims: pathlib.Pa
     ended, wrong = fault_of(place, case, tally)
     if wrong or rng.random() < 0.75:
         return wrong
-    how = rng.choice(("cache", "cache", "short", "refused"))
+    how = rng.choice(("cache", "cache", "json", "short", "refused"))
     tally.again[how] += 1
     number = rng.choice((1, 1, 2, 7, 1000)) if how == "short" else int(2 ** (rng.random() * 9))
     return runs_once_more(place, case, ended, how, number, shims)
@@ -379,7 +395,7 @@ def again(program: str, folder: pathlib.Path, shims: pathlib.Path | None) -> int
         os.chdir(name)
         place = Place(program)
         ended, wrong = fault_of(place, case, Tally())
-        ways = [("short", 1), *(("refused", number) for number in range(1, 100)), ("cache", 0)]
+        ways = [("short", 1), *(("refused", number) for number in range(1, 100)), ("json", 0), ("cache", 0)]
         for how, number in ways:
             wrong = wrong or runs_once_more(place, case, ended, how, number, shims)
         os.chdir("/")
