@@ -13,7 +13,7 @@ from .arithmetic import BINARY, COMPARE, MASK, folded
 from .fields import asked_of, bits_at, fields_in, followers, put_bits, words_of, written
 from .syntax import (
     Arrival, Assign, AssignWide, Binary, Block, Both, Chain, Clone, Complement, Condition, Constant, Count, Cut, Drop, Either, Field, Free, Header, If, Inline,
-    Length, Let, Lookup, Need, Negated, New, Number, Pop, Present, Program, Push, Queue, Send, Sum, Truncate, Truth, Variable, While,
+    Length, Let, Lookup, Need, Negated, New, Number, Pop, Present, Program, Push, Pushed, Queue, Send, Sum, Truncate, Truth, Variable, While,
 )
 
 # A packet with IPv4 options and less tailroom than this may be dropped once that header was found.
@@ -488,23 +488,26 @@ class SourceRun(Headers):
     def do_push(self, it: Push) -> None:
         headers = [self.known[pushed.header] for pushed in it.headers]
         self.touch(self.source.sorted(name for pushed in it.headers for value in pushed.fields.values() if value for name in self.source.headers_in(value)))
+        if it.on is None and len(headers) == 1 and headers[0].next is not None and headers[0].after:
+            return self.push_tag(headers[0], headers[0].next, self.pushed_values(it.headers[0]))
         asked = [asked_of(after, before.name) for before, after in zip(headers, headers[1:])]
         data: list[int] = []
         for header, pushed, wanted in zip(headers, it.headers, [*asked, {}]):
-            data += written(header, {name: None if value is None else self.number(value, self.variables) for name, value in pushed.fields.items()}, wanted)
-        if it.on is None and len(headers) == 1 and headers[0].next is not None:
-            self.push_tag(headers[0], headers[0].next, data)
-        else:
-            self.push(it.on, 0, data)
+            data += written(header, self.pushed_values(pushed), wanted)
+        self.push(it.on, 0, data)
 
-    def push_tag(self, tag: Header, follows: str, data: list[int]) -> None:
-        """Inserts a tag after the header that it follows, and makes that header's last field ask for it."""
+    def pushed_values(self, it: Pushed) -> dict[str, int | None]:
+        """The values of the named fields of a pushed header."""
+        return {name: None if value is None else self.number(value, self.variables) for name, value in it.fields.items()}
+
+    def push_tag(self, tag: Header, follows: str, values: dict[str, int | None]) -> None:
+        """Inserts a tag after the header that it follows, whose last field then asks for it; what it said, the tag says."""
         before = self.preceding(tag.name)
         end = None if before is None else self.end_of(before)
         if before is None or end is None or self.length(self.first) < end:
             return self.ends_by(self.program.otherwise)
-        last, bits = Field(before, self.known[before].last), tag.fields[follows]
-        put_bits(data, bits.at, bits.count, self.get(last))
+        last = Field(before, self.known[before].last)
+        data = written(tag, {**values, follows: self.get(last)}, {})
         self.put(last, asked_of(tag, before)[last.name])
         self.push(None, end, data)
 

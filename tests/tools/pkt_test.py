@@ -1273,6 +1273,17 @@ if options6 {}
         self.both("need qinq/vlan\npop qinq/vlan\nsend port", [frame], [inner])
         self.both("if vlan.vid in 0x100/4 { send port }", [tagged(inner, it) for it in (0xFF, 0x100, 0x1FF, 0x200)], [tagged(inner, it) for it in (0x100, 0x1FF)])
 
+    def test_tags_with_a_length_or_a_sum(self) -> None:
+        long = "header tag { v:8 a:8 type:16 } after eth if eth.type == 0x88b5 length 4 + (v & 3) * 4 for v:8 in 0x40..0x43 next type\n"
+        frames = [eth(bytes([0x40 + k, 1, 8, 6]) + bytes(4 * k) + b"rest", 0x88B5) for k in range(5)]
+        self.both(long + "otherwise send port\npop tag\nsend port", frames, [*[eth(b"rest", 0x0806)] * 4, frames[4]])
+        summed = "header tag { a:16 sum:16 = auto type:16 } after eth if eth.type == 0x88b5 next type\n"
+        for source, a in (("push tag { a = 5 }", 5), ("push tag { a = eth.dst sum = auto }", 0xB)):
+            with self.subTest(source):
+                tag = struct.pack(">HHH", a, checksum(struct.pack(">HH", a, 0x0806)), 0x0806)
+                self.both(f"{summed}{source}\nsend port", [eth(b"rest", 0x0806)], [eth(tag + b"rest", 0x88B5)])
+        self.both("header tag { a:16 type:16 } next type\npush tag { a = 5 type = 6 }\nsend port", [eth(b"rest")], [b"\0\5\0\6" + eth(b"rest")])
+
     def test_gre_with_keys_and_sums(self) -> None:
         inner = eth(ipv4(17, bytes(8)))
         def frame(flags: int, more: str) -> bytes:

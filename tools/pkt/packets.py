@@ -115,7 +115,10 @@ def do_pop(way: Way, it: Pop, after: Join[Way], missing: Join[Way]) -> None:
             continue
         conditions.has_bytes(s, end, missing)
         if last.next and begin:
-            begin -= last.fields[last.next].bits // 8
+            kept, ends = last.fields[last.next].bits // 8, s.begins(last.name) + last.size
+            begin -= kept
+            if ends != end:
+                move_bytes(s, kept, ends - kept, end - kept)
         move_bytes(s, begin, 0, count)
         s.emit("adj", f"p{s.held[THIS]}", count)
         s.move(-count, begin + count)
@@ -208,10 +211,22 @@ def push_tag(way: Way, pushed: Pushed, before: str) -> None:
     (kind,) = asked_of(tag.follows[before]).values()
     width = tag.fields[tag.next].bits // 8
     front = way.begins(before) + header.size - width
+    others += sums_of_tag(way, pushed, data, others, Span(8 * front, 8 * width))
     p = prepend(way, THIS, tag.size)
     move_bytes(way, front, tag.size, 0)
     whole = kind.to_bytes(width, "big") + data[: tag.size - width]
     write_headers(way, whole, [(span.moved(width), value) for span, value in others], front, p, over_zeros=False)
+
+
+def sums_of_tag(way: Way, pushed: Pushed, data: bytes, others: Others, kind: Span) -> Others:
+    """The checksum of an inserted tag that is `auto`, given where the packet has what its `next` field gets."""
+    tag = way.headers[pushed.header]
+    if None not in (tag.defaults | dict(pushed.values)).values():
+        return []
+    kept = registers.load(way, kind)
+    found = checksums.sums_of(way, (pushed,), data, [*others, (tag.fields[tag.next], kept)])
+    registers.release(way, kept)
+    return found
 
 
 def values_of(way: Way, pushed: tuple[Pushed, ...], is_late: bool = False) -> tuple[bytes, Others]:
