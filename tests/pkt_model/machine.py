@@ -520,13 +520,12 @@ class SourceRun(Headers):
 
     def do_pop(self, it: Pop) -> None:
         self.touch(it.path)
-        begin, end = self.found[it.path[0]], self.end_of(it.path[-1])
-        if end is None or self.length(self.first) < end:
+        begin, end, last = self.found[it.path[0]], self.end_of(it.path[-1]), self.known[it.path[-1]]
+        kept = last.fields[last.next].count if last.next is not None and begin > 0 else 0
+        if end is None or end <= begin or 8 * begin < kept or self.length(self.first) < end:
             return self.ends_by(self.program.otherwise)
-        last = self.known[it.path[-1]]
-        if last.next is not None and begin > 0:
-            count = last.fields[last.next].count
-            self.put_bits(8 * begin - count, count, self.get(Field(last.name, last.next)))
+        if last.next is not None and kept:
+            self.put_bits(8 * begin - kept, kept, self.get(Field(last.name, last.next)))
         self.remove(self.first, begin, end)
         self.forget()
 

@@ -1284,6 +1284,19 @@ if options6 {}
                 self.both(f"{summed}{source}\nsend port", [eth(b"rest", 0x0806)], [eth(tag + b"rest", 0x88B5)])
         self.both("header tag { a:16 type:16 } next type\npush tag { a = 5 type = 6 }\nsend port", [eth(b"rest")], [b"\0\5\0\6" + eth(b"rest")])
 
+    def test_paths_whose_last_header_comes_first(self) -> None:
+        declared = """header c { z:32 } after eth if eth.type == 0x88b5
+header a { x:16 } after c if c.z != 0
+header b { y:16 } after eth if eth.type == 0x88b5 after a if a.x != 0
+otherwise send port
+"""
+        frame = eth(bytes(range(1, 9)) + b"rest", 0x88B5)
+        self.both(declared + "if b { if a { pop a/b } }\nsend port", [frame], [frame])
+        self.both(declared + "if a { pop a/b }\nsend port", [frame], [frame[:18] + b"rest"])
+        before = "header one { x:8 }\nheader two { y:8 type:16 } after one if 1\nheader tag { z:16 type:16 } after two if two.type == 5 next type\n"
+        self.both(before + "otherwise send port\nif length > 8 { pop two/tag }\nsend port", [b"\1\2\0\5\1\2\3\4end"], [b"\1\2\0\5\1\2\3\4end"])
+        self.both(before + "otherwise send port\npop tag\nsend port", [b"\1\2\0\5\1\2\3\4end"], [b"\1\2\3\4end"])
+
     def test_gre_with_keys_and_sums(self) -> None:
         inner = eth(ipv4(17, bytes(8)))
         def frame(flags: int, more: str) -> bytes:

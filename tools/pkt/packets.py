@@ -109,13 +109,14 @@ def do_pop(way: Way, it: Pop, after: Join[Way], missing: Join[Way]) -> None:
     last = way.headers[it.path[-1]]
     for s, size in conditions.each_length(way, last, missing):
         begin, end = s.begins(it.path[0]), s.begins(last.name) + size
+        kept = last.fields[last.next].bits // 8 if last.next and begin else 0
         count = end - begin
-        if end > MAX_BYTES:
+        if end > MAX_BYTES or end <= begin or begin < kept:
             s.jump(missing)
             continue
         conditions.has_bytes(s, end, missing)
-        if last.next and begin:
-            kept, ends = last.fields[last.next].bits // 8, s.begins(last.name) + last.size
+        if kept:
+            ends = s.begins(last.name) + last.size
             begin -= kept
             if ends != end:
                 move_bytes(s, kept, ends - kept, end - kept)
@@ -205,7 +206,8 @@ def forget_variables(way: Way, later: Sequence[object]) -> None:
 def push_tag(way: Way, pushed: Pushed, before: str) -> None:
     """Inserts a tag between a header that was found and the bytes after it."""
     tag, header = way.headers[pushed.header], way.headers[before]
-    require(tag.next not in dict(pushed.values), pushed.at, f"{tag.name}.{tag.next} is what stood in {before}", f"take {tag.next} out")
+    named = next((name for name, _ in pushed.values if tag.fields[name].meets(tag.fields[tag.next])), "")
+    require(not named, pushed.at, f"{tag.name}.{tag.next} is what stood in {before}", f"take {named} out")
     data, others = values_of(way, (pushed,))
     come_near(way)
     (kind,) = asked_of(tag.follows[before]).values()
