@@ -70,10 +70,11 @@ def followers(headers: dict[str, Header]) -> dict[str, frozenset[str]]:
 
 def written(header: Header, values: dict[str, int | None], asked: dict[str, int]) -> list[int]:
     """The bytes of a pushed header: a field without a value is what the next header asks for, or its default."""
-    data, summed = [0] * header.size, []
-    given = {name: bits.default for name, bits in header.fields.items() if not bits.is_alias and name not in asked}
+    data, summed = [0] * header.size, list[Bits]()
+    given = {name: bits.default for name, bits in header.fields.items() if bits.default != 0 and name not in asked}
     for name, value in (*[it for it in (given | asked).items() if it[0] not in values], *values.items()):
         bits: Bits = header.fields[name]
+        summed = [it for it in summed if it.at >= bits.at + bits.count or bits.at >= it.at + it.count]
         if value is None:
             summed.append(bits)
         put_bits(data, bits.at, bits.count, 0 if value is None else value)

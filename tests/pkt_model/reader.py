@@ -407,19 +407,24 @@ class Reader:
         is_alias = self.takes("@")
         begin = self.constant() if is_alias else at
         self.want(":")
-        count, default = self.constant(), 0
+        count = self.constant()
+        default, is_needed = self.default()
         if count == 128:
             header.wide[name] = f"{name}_hi", f"{name}_lo"
-            for number, half in enumerate(header.wide[name]):
-                header.fields[half] = Bits(begin + 64 * number, 64, 0, is_alias)
-            return 0 if is_alias else count
-        has_default = self.takes("=")
-        is_auto = has_default and self.takes("auto")
-        is_needed = has_default and self.takes("need")
-        if has_default and not is_auto and not is_needed:
-            default = self.constant()
-        header.fields[name] = Bits(begin, count, None if is_auto else default, is_alias, is_needed)
+            halves = (default.high, default.low) if isinstance(default, Wide) else (Constant(0), Constant(0))
+            for number, half in enumerate(halves):
+                header.fields[header.wide[name][number]] = Bits(begin + 64 * number, 64, known(half), is_alias, is_needed)
+        else:
+            header.fields[name] = Bits(begin, count, None if default is None else known(default), is_alias, is_needed)
         return 0 if is_alias else count
+
+    def default(self) -> tuple[Number | None, bool]:
+        """What a push writes where nothing is said, none if it is `auto`; and whether each push says it."""
+        if not self.takes("="):
+            return Constant(0), False
+        if self.takes("need"):
+            return Constant(0), True
+        return None if self.takes("auto") else self.number(), False
 
     def clause(self, header: Header) -> bool:
         """Reads a clause of a header if one is next, and says whether."""

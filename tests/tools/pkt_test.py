@@ -300,6 +300,10 @@ class Errors(unittest.TestCase):
             "header h { a:8 s:16 b:8 } sum s": "1:8: the checksum s is one 16-bit word of the header",
             "header h { a:8 a:8 }": "1:16: a is there twice",
             "header h { a_hi:8 a:128 }": "1:19: a_hi is there twice",
+            "header h { a:128 a:8 }": "1:18: a is there twice",
+            "header h { a:8 b:8=3 c@8:8=5 }": "1:8: b and c have bits in common, and `push` would write both",
+            "header h { a:128 = 5 }": "1:20: an IPv6 address is expected here",
+            "header h { a:128 = need } push h { a_lo = 1 }": "1:32: h.a_hi is not named, and would be 0",
             "header h { a:8 } after h if h.a == 1": "1:24: a header does not follow itself",
             "header h { a:8 } length w for v:8 in 1..3": "1:25: a length is calculated from its own variable and constants",
             "header h { a:16 } length a for a:8 in 2..3": "1:32: a is here the first 8 bits of h, which its field a is not",
@@ -1283,6 +1287,19 @@ if options6 {}
                 tag = struct.pack(">HHH", a, checksum(struct.pack(">HH", a, 0x0806)), 0x0806)
                 self.both(f"{summed}{source}\nsend port", [eth(b"rest", 0x0806)], [eth(tag + b"rest", 0x88B5)])
         self.both("header tag { a:16 type:16 } next type\npush tag { a = 5 type = 6 }\nsend port", [eth(b"rest")], [b"\0\5\0\6" + eth(b"rest")])
+
+    def test_values_that_push_writes_by_default(self) -> None:
+        for declared, pushed, wanted in (
+            ("header h { a:8 b:128 = 2001:db8::1 c:8 = 7 }", "push h { a = 1 }", "01 20010db8 00000000 00000000 00000001 07"),
+            ("header h { a:128 = need b:8 = 7 }", "push h { a = ::5 }", "00000000 00000000 00000000 00000005 07"),
+            ("header h { a:8 b:8 c@8:8 = 5 d:8 = 1 }", "push h { a = 1 }", "01 05 01"),
+            ("header h { a:8 b:8 c@8:8 = 5 }", "push h { b = eth.dst }", "00 0b"),
+            ("header h { a:16 b:16 c@16:16 = auto }", "push h { a = 5 }", "0005 fffa"),
+            ("header h { a:16 b:16 c@16:16 = auto }", "push h { a = eth.dst b = 3 }", "000b 0003"),
+        ):
+            with self.subTest(declared):
+                frame = eth(b"rest")
+                self.both(f"{declared}\n{pushed}\nsend port", [frame], [bytes.fromhex(wanted) + frame])
 
     def test_paths_whose_last_header_comes_first(self) -> None:
         declared = """header c { z:32 } after eth if eth.type == 0x88b5

@@ -265,12 +265,14 @@ def fold(way: Way, total: Value, keeps: bool = False) -> None:
 
 
 def sums_of(way: Way, pushed: tuple[Pushed, ...], data: bytes, others: Others) -> Others:
-    """The checksums of pushed headers that are `auto`, given their constant bytes and the other fields."""
+    """The checksums of pushed headers that are `auto`, given their constant bytes and the other fields. Named fields come after what is by default."""
     found, at = Others(), 0
     for it in pushed:
-        header = way.headers[it.header]
-        values = header.defaults | dict(it.values)
-        found += [(own.moved(at), sum_of(way, header, at, data, others)) for name, own in header.fields.items() if values.get(name, 0) is None]
+        header, named = way.headers[it.header], dict(it.values)
+        values, taken = header.defaults | named, [header.fields[name] for name in named]
+        for name, own in header.fields.items():
+            if values.get(name, 0) is None and (name in named or not any(own.meets(span) for span in taken)):
+                found.append((own.moved(at), sum_of(way, header, at, data, others)))
         at += header.size
     return found
 

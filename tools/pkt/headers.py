@@ -3,6 +3,7 @@ from __future__ import annotations
 
 from collections.abc import Iterable
 from dataclasses import dataclass, field, replace
+from itertools import combinations
 from typing import NamedTuple
 
 from .syntax import And, Compare, Field, Name, Node, Number, Place, parts, require
@@ -177,6 +178,8 @@ def check(header: Header, headers: Headers) -> None:
             "the range after `in` begins with a greater number")
     automatic = [name for name, value in header.defaults.items() if value is None]
     require(len(automatic) < 2, at, f"{' and '.join(automatic)} are both `auto`, and each would count the other", "leave one of them out")
+    clash = next((pair for pair in combinations(header.defaults, 2) if header.fields[pair[0]].meets(header.fields[pair[1]])), ())
+    require(not clash, at, f"{' and '.join(clash)} have bits in common, and `push` would write both", "leave one of the values out")
     cure = "it has 16 bits, and an even number of bytes before it"
     for name in automatic:
         require(header.fields[name].is_word, at, f"{name} is `auto`, and no 16-bit word of the header", f"a checksum is one: {cure}")

@@ -5,8 +5,8 @@ from ..cures import FIELD
 from ..headers import Header, Span, check
 from ..syntax import Field, Name, Number, Place, Wide, parts, require
 from .expressions import Expressions
-from .grammar import ASSIGNMENTS, MAX_HEADERS, OTHER_LENGTH
-from .nodes import constant_of, substituted
+from .grammar import ASSIGNMENTS, MAX_HEADERS, NUMBERS, OTHER_LENGTH
+from .nodes import as_wide, constant_of, substituted
 from .program import Program
 
 
@@ -57,26 +57,33 @@ class HeaderDeclarations(Expressions):
         total = 0
         while not self.may("}"):
             name = self.name("a field", may_be_reserved=True, cure=FIELD)
-            require(name.word not in header.fields, name, f"{name.word} is there twice", "take another name")
+            require(name.word not in {**header.fields, **header.wide}, name, f"{name.word} is there twice", "take another name")
             alias = self.constant() if self.may("@") else None
             self.take(":", FIELD)
             bits, first = constant_of(self.number(), FIELD), total if alias is None else alias
             total += bits if alias is None else 0
             if bits == 128:
                 self.halves(header, name, first)
-                continue
-            header.fields[name.word] = Span(first, bits)
+            else:
+                header.fields[name.word] = Span(first, bits)
             if self.may("="):
-                at = self.place()
-                if self.may("need"):
-                    header.needed += (name.word,)
-                    continue
-                header.defaults[name.word] = default = None if self.may("auto") else self.constant()
-                require(not default or default <= header.fields[name.word].largest, at, f"{name.word} has {bits} bits, and {default} needs more")
+                self.default(header, name.word, bits)
         cure = f"a last field, as rest:{-total % 8}, fills them" if total else "a header has at least one field"
         require(total and total % 8 == 0, header.at, f"the {total} bits of {header.name} do not make whole bytes", cure)
         header.size = total // 8
         header.sizes = {0: header.size}
+
+    def default(self, header: Header, name: str, bits: int) -> None:
+        """What `push` writes to a field by default, or that each `push` names it."""
+        at, names = self.place(), header.wide.get(name, (name,))
+        if self.may("need"):
+            header.needed += names
+        elif name in header.wide:
+            value = as_wide(self.operation(NUMBERS))
+            header.defaults |= dict(zip(names, map(constant_of, (value.high, value.low))))
+        else:
+            header.defaults[name] = default = None if self.may("auto") else self.constant()
+            require(not default or default <= header.fields[name].largest, at, f"{name} has {bits} bits, and {default} needs more")
 
     def halves(self, header: Header, name: Place, first: int) -> None:
         """The two halves of a field of 128 bits, which are fields too."""
