@@ -39,8 +39,9 @@ module _ {V R W : Type 0} (sees : V → Event → V → Type 0) (left : R → Op
     shown : from_to ShownOn;
   }
 
-module _ {V R : Type 0} (sees : V → Event → V → Type 0) (noted : V → Note → V → Type 0) (left : R → Option (List ℕ)) (reads : R → ℕ) (e e' : EngineState)
-    (progress progress' : List InputProgress) (had_ins new_ins : List R) (had_buf new_buf : List ℕ) (which which' : Traced) (v v' : V) where
+module _ {V R : Type 0} (sees : V → Event → V → Type 0) (noted : V → Note → V → Type 0) (left : R → Option (List ℕ)) (reads : R → ℕ)
+    (broken_reader : R → Bool) (failed_reads : R → ℕ) (e e' : EngineState) (progress progress' : List InputProgress) (had_ins new_ins : List R)
+    (had_buf new_buf : List ℕ) (which which' : Traced) (v v' : V) where
   -- a trace that had come to one port in a round has come to another
   abbrev pub TracedOn : ℕ → ℕ → ℕ → ℕ → Type 0
   TracedOn round port round' port' = (v0 : V) (e0 : EngineState) (most : ℕ) (had : List Device)
@@ -57,4 +58,5 @@ module _ {V R : Type 0} (sees : V → Event → V → Type 0) (noted : V → Not
     turns : e'.turns + which'.records ≡ e.turns + which.records;
     setting : e'.setting ≡ e.setting;
     goes : from_to TracedOn;
+    readers : AllFared broken_reader failed_reads (λ q. false) had_ins new_ins;
   }

@@ -225,3 +225,8 @@ NoneIsWanted only progress wanted =
 abbrev pub IsOfInput : RunCause → Type 0
 IsOfInput (In port error) = ⊤
 IsOfInput _ = ⊥
+
+-- the cause with which tracing stops at a fault of this port's input
+abbrev pub cause_at : {A : Type 0} → ℕ → Result A PcapError → Result A RunCause
+cause_at port (Ok done) = Ok done
+cause_at port (Err error) = Err (In port error)

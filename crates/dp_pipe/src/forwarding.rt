@@ -1,8 +1,8 @@
 //! Runs an open engine from captures to captures: headers, then record by record, round by round.
 ghost use Rattle.std.specs.Prelude.{◌≡◌, ℕ, ◌+◌, ◌<◌, ◌≤◌, ◌↔◌, true, false, [], List, Ok, Err, length, map, slice_get, slice_set, take, Some, OnOk, OnErr};
 ghost use Rattle.std.specs.Prelude.{IfOk, IfErr, IsOk, IsErr, IsErrOf, IsTrue};
-ghost use Rattle.dp_pcap.specs.Capture.{truncates};
-ghost use Rattle.dp_pcap.specs.Source.{body_in, IsHeld, IsInRange, Moves, advanced, max_pulls, failed_pulls};
+ghost use Rattle.dp_pcap.specs.Capture.{truncates, truncated_by};
+ghost use Rattle.dp_pcap.specs.Source.{body_in, IsHeld, IsInRange, Moves, WhereKnown, advanced, max_pulls, failed_pulls, max_truncated, truncated_of};
 ghost use Rattle.dp_pipe.specs.Devices.{Device, seen, transfer, AllSound, AllFared, FaredAlone, failed_reader, failed_writer, failed_drain};
 ghost use Rattle.dp_pipe.specs.Forwarding.{Input, ReadsTurn, DrainedAll, DrainsStopped, DrainedFirst, Advances, RunUntil, IsUnderway, IsRound, AreRounds};
 ghost use Rattle.dp_pipe.specs.Forwarding.{LastPulls, AreOpen, IsAlone, HasPlaces, HasPorts, CanAsk};
@@ -78,6 +78,7 @@ fn held_turn<K: CompiledPrograms, R: Feed, V: Watch>(
     ensures sound { (R.is_broken r.old ≡ false) × (R.is_broken r.new ≡ false) }
     ensures calls { R.calls r.new ≡ R.calls r.old }
     ensures failures { R.failures r.new ≡ R.failures r.old }
+    ensures noted { R.truncated r.new ≡ R.truncated r.old + truncated_by source.old.order (take HEAD_SIZE (R.at_hand r.old)) }
 {
     let _turn = engine.watched_turn(port, body_of(r, found.len), watch);
     pass_record(r, source, found);
@@ -106,6 +107,9 @@ fn copied_turn<K: CompiledPrograms, R: Feed, V: Watch>(
     ensures counted { R.calls r.new ≤ R.calls r.old + max_pulls result }
     ensures pulls { LastPulls result (seen R.remaining R.calls r.old) (seen R.remaining R.calls r.new) }
     ensures failures { R.failures r.new ≡ R.failures r.old + failed_pulls result }
+    ensures noted { WhereKnown (R.remaining r.old) (R.remaining r.new)
+        (λ bytes _. R.truncated r.new ≡ R.truncated r.old + truncated_of source.old bytes result) }
+    ensures few { (R.truncated r.old ≤ R.truncated r.new) × (R.truncated r.new ≤ R.truncated r.old + max_truncated result) }
 {
     match next_record(r, source, buf) {
         Ok(Next::Record(time, len)) => {

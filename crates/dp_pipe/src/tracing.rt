@@ -1,14 +1,15 @@
 //! Traces runs: shows the turns of the first records of a pipeline's captures to a tracer.
 
-ghost use Rattle.std.specs.Prelude.{◌≡◌, ℕ, ◌+◌, ◌<◌, ◌≤◌, ◌⊎◌, ◌↔◌, true, false, [], List, Err, Some, length, map, slice_get, IfErr, IsTrue, vec_len};
+ghost use Rattle.std.specs.Prelude.{◌≡◌, ℕ, ◌+◌, ◌<◌, ◌≤◌, ◌⊎◌, ◌↔◌, true, false, [], List, Err, Some, length, map, slice_get, vec_len};
+ghost use Rattle.std.specs.Prelude.{IfErr, IsErrOf, IsOk, IsTrue};
 ghost use Rattle.std.specs.Vec.{vec_capacity};
-ghost use Rattle.dp_pcap.specs.Source.{IsInRange, Moves, max_pulls};
+ghost use Rattle.dp_pcap.specs.Source.{IsInRange, Moves, WhereKnown, failed_pulls, max_pulls, max_truncated, truncated_of};
 ghost use Rattle.dp_engine.specs.Engines.{EngineState, IsAscending};
 ghost use Rattle.dp_engine.specs.Needs.{bytes_needed};
-ghost use Rattle.dp_pipe.specs.Devices.{Device, seen};
+ghost use Rattle.dp_pipe.specs.Devices.{Device, AllFared, AllSound, FaredAlone, failed_reader, seen};
 ghost use Rattle.dp_pipe.specs.Forwarding.{LastPulls};
 ghost use Rattle.dp_pipe.specs.Tracing.{IsTraced, TracesNext, TracesStep, TracesUntil, TracesRound, TracesRecords, TracesFirst, NoneIsWanted};
-ghost use Rattle.dp_pipe.specs.Tracing.{CanTrace, IsOfInput};
+ghost use Rattle.dp_pipe.specs.Tracing.{CanTrace, IsOfInput, cause_at};
 ghost use Rattle.dp_pipe.specs.declared.forwarding.InputProgress.{InputProgress as InputOf};
 
 use crate::forwarding::{InputProgress, MAX_RUN_TURNS, ROUNDS, RunCause, is_open};
@@ -77,6 +78,12 @@ fn trace_next<K: CompiledPrograms, R: Feed, T: Tracer>(
     ensures source { Moves source.old source.new result }
     ensures counted { R.calls r.new ≤ R.calls r.old + max_pulls result }
     ensures pulls { LastPulls result (seen R.remaining R.calls r.old) (seen R.remaining R.calls r.new) }
+    ensures failed { IsErrOf result PcapError.Read ↔ IsTrue (R.is_broken r.new) }
+    ensures stays { IsTrue (R.is_broken r.old) → IsTrue (R.is_broken r.new) }
+    ensures failures { R.failures r.new ≡ R.failures r.old + failed_pulls result }
+    ensures noted { WhereKnown (R.remaining r.old) (R.remaining r.new)
+        (λ bytes _. R.truncated r.new ≡ R.truncated r.old + truncated_of source.old bytes result) }
+    ensures few { (R.truncated r.old ≤ R.truncated r.new) × (R.truncated r.new ≤ R.truncated r.old + max_truncated result) }
     ensures buf { length buf.new ≡ length buf.old }
 {
     match next_record(r, source, buf) {
@@ -108,6 +115,7 @@ fn trace_port<K: CompiledPrograms, R: Feed, T: Tracer>(
         (seen R.remaining R.calls) r.old r.new which.old.records which.new.records result }
     ensures port { which.new.port ≡ which.old.port }
     ensures buf { length buf.new ≡ length buf.old }
+    ensures fared { FaredAlone R.is_broken R.failures (failed_reader (cause_at port result)) port r.old r.new }
 {
     if which.records == 0 {
         return Ok(());
@@ -159,6 +167,7 @@ fn trace_round<K: CompiledPrograms, R: Feed, T: Tracer>(
     ensures port { which.new.port ≡ which.old.port }
     ensures many { (length inputs.new ≡ length inputs.old) × (length ins.new ≡ length ins.old) × (length buf.new ≡ length buf.old) }
     ensures cause { IfErr result IsOfInput }
+    ensures fared { AllFared R.is_broken R.failures (failed_reader result) ins.old ins.new }
 {
     let ports = ins.len() as u8;
     for port in 0..ports {
@@ -215,6 +224,8 @@ fn trace_rounds<K: CompiledPrograms, R: Feed, T: Tracer>(
         which.records
         → TracesRecords T.Watch.sees T.noted v0 tracer.new which.port most e0 engine.new had (map (seen R.remaining R.calls) ins.new) result }
     ensures cause { IfErr result IsOfInput }
+    ensures many { length ins.new ≡ length ins.old }
+    ensures fared { AllFared R.is_broken R.failures (failed_reader result) ins.old ins.new }
 {
     let mut which = which;
     for k in 0..ROUNDS {
@@ -245,6 +256,8 @@ fn trace_records<K: CompiledPrograms, R: Feed, T: Tracer>(
     ensures traced { TracesRecords T.Watch.sees T.noted tracer.old tracer.new which.port which.records engine.old engine.new
         (map (seen R.remaining R.calls) ins.old) (map (seen R.remaining R.calls) ins.new) result }
     ensures cause { IfErr result IsOfInput }
+    ensures sound { IsOk result → AllSound R.is_broken ins.new }
+    ensures fared { AllFared R.is_broken R.failures (failed_reader result) ins.old ins.new }
 {
     read_headers(ins, inputs)?;
     trace_rounds(engine, inputs.as_mut_slice(), ins, buf, which, tracer)
@@ -278,6 +291,9 @@ pub fn trace<K: CompiledPrograms, R: Feed, T: Tracer>(
         ⊎ TracesFirst T.Watch.sees T.noted tracer.old tracer.new pipeline pattern.items which.port which.records
         (map (seen R.remaining R.calls) ins.old) (map (seen R.remaining R.calls) ins.new) result }
     ensures untouched { IfErr result (λ cause. (cause ≡ RunCause.Memory) ⊎ (cause ≡ RunCause.NoRoom) → (ins.new ≡ ins.old) × (tracer.new ≡ tracer.old)) }
+    // Where all went well no reader is broken; one that failed is the one that the result names, in its last call.
+    ensures sound { IsOk result → AllSound R.is_broken ins.new }
+    ensures fared { AllFared R.is_broken R.failures (failed_reader result) ins.old ins.new }
 {
     let (mut engine, mut inputs, mut buf) = opened::<K>(alloc, pipeline, pattern)?;
     let outcome = trace_records(

@@ -1,11 +1,13 @@
 -- `trace_round`: one more input, and the first with a fault. What a call needs is derived where tracing has come.
-use Rattle.std.proofs.Common.{◌≡◌, ◌≤◌, length, ap, ◌∙◌, arith}
-use Rattle.std.specs.Prelude.{slice_get, slice_index_or, Some}
+use Rattle.std.proofs.Common.{◌≡◌, ◌≤◌, Result, Ok, length, ap, ◌∙◌, arith}
+use Rattle.std.specs.Prelude.{slice_get, slice_index_or, slice_set, Some, ⊤}
 use Rattle.std.proofs.lemmas.List.{length-set}
 use Rattle.std.proofs.lemmas.Option.{slice_get-get_or}
 use Rattle.dp_pcap.specs.declared.format.TheConstants.{MAX_RECORD}
-use Rattle.dp_pipe.specs.Devices.{seen}
-use Rattle.dp_pipe.specs.Tracing.{TracesStep}
+use Rattle.dp_pipe.specs.declared.forwarding.RunCause.{RunCause}
+use Rattle.dp_pipe.specs.Devices.{seen, AllFared, failed_reader}
+use Rattle.dp_pipe.specs.Tracing.{TracesStep, cause_at}
+use Rattle.dp_pipe.proofs.Faring.{reader_then}
 use Rattle.dp_pipe.proofs.TracedReads.{open_until, round_over, step_counts, step_on, step_stops}
 use Rattle.dp_pipe.proofs.tracing.trace_round.Goals as goal
 use Rattle.dp_pipe.proofs.tracing.trace_round.Goals.{After-index-ins-k, After-trace_port}
@@ -49,6 +51,15 @@ step : (g : _) (c : After-trace_port g)
     c.loop-port.which.records c.trace_port.new.which.records c.trace_port.result
 step g c = rw (← c.loop-port.invariant.only) c.trace_port.ensures.step
 
+-- how the readers are after each result
+fared : (g : _) (c : After-trace_port g) (given : Result ⊤ RunCause) → cause_at c.loop-port.port c.trace_port.result ≡ given
+    → AllFared g.R.Feed.is_broken g.R.Feed.failures (failed_reader given) c.args.ins.now (slice_set c.loop-port.ins c.loop-port.port c.trace_port.new.r)
+fared g c given is =
+    let inv = c.loop-port.invariant in
+    reader_then g.R.Feed.is_broken g.R.Feed.failures (cause_at c.loop-port.port c.trace_port.result) given c.loop-port.port c.args.ins.now c.loop-port.ins _
+    c.trace_port.new.r inv.ins inv.readers (slice_get-get_or c.loop-port.ins c.loop-port.port c.index-ins-k.result
+    (omega (arith, inv.ins, c.loop-port-test.true))) c.trace_port.ensures.fared is
+
 pub loop-port-preserved : goal.loop-port-preserved
 loop-port-preserved g c =
     let inv = c.loop-port.invariant in
@@ -66,6 +77,7 @@ loop-port-preserved g c =
       goes = λ k v0 e0 most had until.
           step_on (seen g.R.Feed.remaining g.R.Feed.calls) called c.loop-port.ins (inv.goes k v0 e0 most had until) (input_here g here)
           (reader_here g here) c.in-Ok.is;
+      readers = fared g (goal.at.loop-port-preserved g c).After-trace_port (Ok tt) (ap (cause_at c.loop-port.port) c.in-Ok.is);
     }
 
 pub returns-in-Err : goal.returns-in-Err
@@ -87,6 +99,7 @@ returns-in-Err g c =
         c.trace_port.ensures.buf ∙ inv.buf,
       );
       cause = tt;
+      fared = fared g (goal.at.returns-in-Err g c).After-trace_port _ (ap (cause_at c.loop-port.port) c.in-Err.is);
     }
 
 pub returns : goal.returns
@@ -100,4 +113,5 @@ returns g c =
       port = inv.only;
       many = (inv.inputs, inv.ins, inv.buf);
       cause = tt;
+      fared = inv.readers;
     }

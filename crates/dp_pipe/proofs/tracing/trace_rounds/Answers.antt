@@ -1,7 +1,9 @@
 -- `trace_rounds`: one more round, the end, and a fault.
-use Rattle.std.proofs.Common.{rules, ◌≡◌, length, map, refl, sym, ap, ◌∙◌, arith}
-use Rattle.std.specs.Prelude.{Err}
-use Rattle.dp_pipe.specs.Devices.{seen}
+use Rattle.std.proofs.Common.{rules, ◌≡◌, Result, Ok, length, map, refl, sym, ap, ◌∙◌, arith}
+use Rattle.std.specs.Prelude.{Err, ⊤}
+use Rattle.dp_pipe.specs.declared.forwarding.RunCause.{RunCause}
+use Rattle.dp_pipe.specs.Devices.{seen, AllFared, failed_reader}
+use Rattle.dp_pipe.proofs.Faring.{readers_then}
 use Rattle.dp_pipe.specs.Tracing.{TracesRound, TracesUntil}
 use Rattle.dp_pipe.proofs.TracedReads.{all_traced, none_wanted}
 use Rattle.dp_pipe.proofs.tracing.trace_rounds.Goals as goal
@@ -40,6 +42,14 @@ went g c v0 e0 most had until =
     rw (← c.loop-k.invariant.only) (c.trace_round.ensures.goes v0 e0 most had c.loop-k.k
     (rw c.loop-k.invariant.only (c.loop-k.invariant.goes v0 e0 most had until)))
 
+-- how the readers are after each result
+fared : (g : _) (c : After-trace_round g) (given : Result ⊤ RunCause) → c.trace_round.result ≡ given
+    → AllFared g.R.Feed.is_broken g.R.Feed.failures (failed_reader given) c.args.ins.now c.trace_round.new.ins
+fared g c given is =
+    let inv = c.loop-k.invariant in
+    readers_then g.R.Feed.is_broken g.R.Feed.failures c.trace_round.result given c.args.ins.now c.loop-k.ins c.trace_round.new.ins inv.ins inv.readers
+    c.trace_round.ensures.fared is
+
 pub loop-k-preserved : goal.loop-k-preserved
 loop-k-preserved g c =
     let inv = c.loop-k.invariant in
@@ -54,6 +64,7 @@ loop-k-preserved g c =
       setting = t.ensures.setting ∙ inv.setting;
       goes = λ v0 e0 most had until.
           rw c.in_ok-trace_round.was at (went g (goal.at.loop-k-preserved g c).After-trace_round v0 e0 most had until);
+      readers = fared g (goal.at.loop-k-preserved g c).After-trace_round (Ok tt) c.in_ok-trace_round.was;
     }
 
 pub returns-then-not-is_any_left-clause-goes : goal.returns-then-not-is_any_left-clause-goes
@@ -69,3 +80,13 @@ pub returns-clause-goes : goal.returns-clause-goes
 returns-clause-goes g c v0 e0 most had until =
     let here = c.loop-k.invariant.goes v0 e0 most had until in
     all_traced here (none_wanted here refl (omega (arith, c.loop-k-test.false)))
+
+pub returns-then-not-is_any_left-clause-fared : goal.returns-then-not-is_any_left-clause-fared
+returns-then-not-is_any_left-clause-fared g c = c.loop-k.invariant.readers
+
+pub returns-in_err-trace_round-clause-fared : goal.returns-in_err-trace_round-clause-fared
+returns-in_err-trace_round-clause-fared g c =
+    fared g (goal.at.returns-in_err-trace_round-clause-fared g c).After-trace_round c.from_residual.result (c.in_err-trace_round.was ∙ sym (gone g c))
+
+pub returns-clause-fared : goal.returns-clause-fared
+returns-clause-fared g c = c.loop-k.invariant.readers
