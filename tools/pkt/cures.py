@@ -19,7 +19,7 @@ CURES = {
     "-": "write x -= 1",
     "+": "write x += 1",
     "%": "there is no division, and x & 7 is the rest of x by 8",
-    ">": "a number is missing before it; a field has a point, as in ipv4.ttl, and <> is !=",
+    ">": "a number is missing before it; a field has a dot, as in ipv4.ttl, and <> is !=",
     ":": "an Ethernet address has six groups, and an IPv6 address eight, or :: for groups of 0",
     "?": "if c { x = 1 } else { x = 2 }",
     ",": "leave it out; `and` is between conditions, and / between the headers of a path; a clone is sent to a second port",

@@ -121,7 +121,7 @@ class Lexer:
         return [self.words[it] if 0 <= it < len(self.words) else end for it in range(index - 2, index + 3)]
 
     def cure_of_joined(self, at: Place) -> str:
-        """The cure for words that stand right after one another and were meant as one: a name with a dash, a number with a point or a colon."""
+        """The cure for words that stand right after one another and were meant as one: a name with a dash, a number with a dot or a colon."""
         (_, first), (before, left), (kind, _), (after, right), (beyond, last) = self.around(at)
         is_left, is_right = is_right_after(left, at), is_right_after(at, right)
         if at.word == "-" and is_left and is_right and before == "name" and after in ("name", "number"):

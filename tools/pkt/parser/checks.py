@@ -130,7 +130,7 @@ class Checks(ParserState):
             low = value.value & span.largest
             cure = f"{low} are its lowest {span.bits} bits" if low else f"the greatest one is {span.largest}, also in a range, which has both its ends"
             cure = COUNTED.get(name) or MASKED.get(name) or cure
-            cure = "it is below 0, and was cut to 64 bits; a range has two points: x in 1..5" if value.wraps else cure
+            cure = "it is below 0, and was cut to 64 bits; a range has two dots: x in 1..5" if value.wraps else cure
             is_own = value.width != 32 or span.bits != 48
             fault = f"{name} has 48 bits, and {value.at.word} is an IPv4 address of 32"
             require(is_own, value.at, fault, "an Ethernet address has colons, as in 02:00:00:00:00:01")

@@ -157,7 +157,7 @@ class Expressions(Checks):
         return Name(self.take(), at.word if at.word == PORT else at.word + self.suffix)
 
     def cure_of_header(self, word: str) -> str:
-        """The cure for a name before a point that is no header."""
+        """The cure for a name before a dot that is no header."""
         if self.names.get(word) == "a table":
             return LOOKUP.replace("ROUTES", word)
         if self.names.get(word) == "a packet":
