@@ -17,7 +17,11 @@ import paths  # noqa: F401
 
 import command
 
-MAGIC, ETHERNET, TIME = 0xA1B2C3D4, 1, (1_700_000_000, 125_000)
+ETHERNET = 1
+# The magic numbers of captures, by the nanoseconds of a fraction of a second.
+MAGICS = {1000: 0xA1B2C3D4, 1: 0xA1B23C4D}
+# Seconds and nanoseconds: whole microseconds, and others.
+TIME, FINE = (1_700_000_000, 125_000_000), (1_700_000_000, 125_000_007)
 IPV4 = bytes.fromhex("4500001e000100004011f9cc7f0000017f000001") + bytes.fromhex("13880035000a0000abcd")
 IPV6 = bytes.fromhex("60000000000a1140") + bytes(15) + b"\1" + bytes(15) + b"\2" + bytes.fromhex("13880035000a0000abcd")
 PACKETS = ((0x0800, IPV4), (0x86DD, IPV6))
@@ -42,20 +46,22 @@ KINDS = {
 }
 
 
-def write_capture(path: pathlib.Path, link: int, records: list[bytes]) -> None:
-    """Writes a capture."""
-    body = b"".join(struct.pack("<IIII", *TIME, len(it), len(it)) + it for it in records)
-    path.write_bytes(struct.pack("<IHHiIII", MAGIC, 2, 4, 0, 0, 65_535, link) + body)
+def write_capture(path: pathlib.Path, link: int, records: list[bytes], time: tuple[int, int] = TIME) -> None:
+    """Writes a capture of records with this time."""
+    unit = 1 if time[1] % 1000 else 1000
+    body = b"".join(struct.pack("<IIII", time[0], time[1] // unit, len(it), len(it)) + it for it in records)
+    path.write_bytes(struct.pack("<IHHiIII", MAGICS[unit], 2, 4, 0, 0, 65_535, link) + body)
 
 
 def read_capture(path: pathlib.Path) -> tuple[int, list[tuple[tuple[int, int], bytes]]]:
     """The link type of a capture, and its records with their times."""
     data, found = path.read_bytes(), []
     magic, *_, link = struct.unpack_from("<IHHiIII", data)
-    at = 24 if magic == MAGIC else len(data)
+    unit = next((unit for unit, own in MAGICS.items() if own == magic), 0)
+    at = 24 if unit else len(data)
     while at < len(data):
-        seconds, micros, length, _ = struct.unpack_from("<IIII", data, at)
-        found.append(((seconds, micros), data[at + 16 : at + 16 + length]))
+        seconds, fraction, length, _ = struct.unpack_from("<IIII", data, at)
+        found.append(((seconds, fraction * unit), data[at + 16 : at + 16 + length]))
         at += 16 + length
     return link, found
 
@@ -68,8 +74,8 @@ def cure_named(program: str, source: pathlib.Path) -> list[str] | None:
     return shlex.split(named[0]) if ran.returncode == 3 and named else None
 
 
-def is_cured(program: str, source: pathlib.Path) -> bool:
-    """Whether the cure that dpv names for this capture gives the same packets in frames, in a capture that dpv reads."""
+def is_cured(program: str, source: pathlib.Path, time: tuple[int, int] = TIME) -> bool:
+    """Whether the cure that dpv names for this capture gives the same packets and times in frames, in a capture that dpv reads."""
     words = cure_named(program, source)
     if words is None:
         return False
@@ -78,11 +84,11 @@ def is_cured(program: str, source: pathlib.Path) -> bool:
     if subprocess.run([names.get(it, it) for it in words], cwd=source.parent, capture_output=True, check=False).returncode != 0:
         return False
     link, records = read_capture(into)
-    wanted = [(TIME, struct.pack(">H", kind) + packet) for kind, packet in PACKETS]
+    wanted = [(time, struct.pack(">H", kind) + packet) for kind, packet in PACKETS]
     words = [program, "one", str(command.STRIP / "strip.dpv"), str(command.STRIP / "strip.cert"), into.name, "out.pcap"]
     return (
         link == ETHERNET
-        and [(time, frame[12:]) for time, frame in records] == wanted
+        and [(own, frame[12:]) for own, frame in records] == wanted
         and subprocess.run(words, cwd=source.parent, capture_output=True, check=False).returncode == 0
     )
 
@@ -97,11 +103,11 @@ def converted(program: str, folder: pathlib.Path) -> list[bool]:
         if not passed[-1]:
             print(f"cures: a capture {name}: the cure fails")
     frames = folder / "frames.pcap"
-    write_capture(frames, ETHERNET, [ethernet(*it) for it in PACKETS])
-    for form in ("pcapng", "modpcap"):
+    for form, time in (("pcapng", TIME), ("pcapng", FINE), ("modpcap", TIME)):
+        write_capture(frames, ETHERNET, [ethernet(*it) for it in PACKETS], time)
         other = folder / f"other.{form}"
         subprocess.run(["editcap", "-F", form, frames.name, other.name], cwd=folder, check=True)
-        passed.append(is_cured(program, other))
+        passed.append(is_cured(program, other, time))
     return passed
 
 

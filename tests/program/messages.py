@@ -25,8 +25,8 @@ import paths  # noqa: F401
 from command import asked, nested_folder, report_cases
 from faults import HEADER, ONE, POOL, capture, make_files, pipeline, run_of
 
-PCAPNG = "it is a pcapng file; editcap -F pcap IN OUT converts it to a capture"
-MODIFIED = PCAPNG.replace("pcapng", "modified pcap")
+PCAPNG = "it is a pcapng file; editcap -F nsecpcap IN OUT converts it to a capture"
+MODIFIED = "it is a modified pcap file; editcap -F pcap IN OUT converts it to a capture"
 # How compressed files begin.
 PACKED = {"gzip": b"\x1f\x8b", "bzip2": b"BZh", "xz": b"\xfd7zXZ\0", "zstd": b"\x28\xb5\x2f\xfd", "lz4": b"\x04\x22\x4d\x18"}
 NOBODY = 65_534

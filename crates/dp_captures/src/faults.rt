@@ -60,7 +60,7 @@ fn write_format<W: fmt::Write>(format: Format, f: &mut fmt::Formatter<W>) -> fmt
     )
 }
 
-const PCAPNG: &str = "it is a pcapng file; editcap -F pcap IN OUT converts it to a capture";
+const PCAPNG: &str = "it is a pcapng file; editcap -F nsecpcap IN OUT converts it to a capture";
 
 const MODIFIED: &str =
     "it is a modified pcap file; editcap -F pcap IN OUT converts it to a capture";
