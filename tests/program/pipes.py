@@ -203,10 +203,18 @@ def through(tried: Tried) -> bool:
 
 
 def refused(tried: Tried) -> bool:
-    """A program that is refused is reported on standard error, so that nothing but a capture is on standard output."""
-    (tried.folder / "bad.dpv").write_text("exit\n")
-    plain, run = (tried.run("one", "bad.dpv", "strip.cert", "in.pcap", output) for output in ("made.pcap", "-"))
-    return came("refused to -", (run.returncode, run.stdout, run.stderr), (plain.returncode, b"", plain.stdout + plain.stderr))
+    """Where a capture would go to standard output, a program that is refused, a fault and a document are on standard error, and nothing else comes."""
+    (tried.folder / "bad.dpv").write_text("adj p0,14\nfree p0\nexit\n")
+    (tried.folder / "bad.toml").write_text(tried.text.replace('"multicast.dpv"', '"bad.dpv"').replace('cert = "multicast.cert"\n', ""))
+    commands = (("filter", "bad.dpv", "in.pcap"), ("one", "bad.dpv", "strip.cert", "in.pcap"), (*ONE, "none.pcap"))
+    pairs = [((*words, "made.pcap"), (*words, "-")) for words in commands] + [(("run", "bad.toml"), ("run", "bad.toml", "--out", "0=-"))]
+    passed = []
+    for words, piped in pairs:
+        for more in ((), ("--json",)):
+            plain, run = tried.run(*words, *more), tried.run(*piped, *more)
+            wanted = (plain.returncode, b"", plain.stdout + plain.stderr)
+            passed.append(came(f"{' '.join(piped)} {' '.join(more)}", (run.returncode, run.stdout, run.stderr), wanted))
+    return all(passed)
 
 
 def kept(tried: Tried) -> bool:

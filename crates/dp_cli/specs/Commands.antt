@@ -15,8 +15,8 @@ use Rattle.dp_sources.specs.{Subjects.one_port, declared.subject.TheConstants.ON
 use Rattle.dp_verdict.specs.{Checks.SaysChecked, Inferring.SaysCert, Inferring.SaysInferred, Inferring.node_at}
 use Rattle.dp_request.specs.Operands.{calls_in, operand, word_of}
 use Rattle.dp_request.specs.Reading.{IsLoaded, IsNotLoaded, IsNotReady, NamesNone}
-use Rattle.dp_cli.specs.Runs.{AreGiven, AreNamed, EndsOver, IsFilterPort, NeverRuns, ReadsAndWrites, RunsOver}
-use Rattle.dp_cli.specs.Stops.{HasBoth, HasNoProgram, HasWrongNumber, Stopped, StopsAtWords}
+use Rattle.dp_cli.specs.Runs.{AreGiven, AreNamed, EndsOver, IsFilterPort, NeverRuns, ReadsAndWrites, RunsOver, takes_stdout}
+use Rattle.dp_cli.specs.Stops.{HasBoth, HasNoProgram, HasWrongNumber, Stopped, StoppedAside, StopsAtWords}
 
 -- ---- `dpv run`
 
@@ -36,15 +36,17 @@ EndsLoaded remaining found p pattern inputs outputs reply =
 abbrev pub EndsRun : {F : Type 0} → (F → Option (List ℕ)) → Found → Result Reply Reply → Type 0
 EndsRun remaining found reply = Stopped (StopsAtWords found) reply
     ⊎ ((pattern : List ℕ) × (inputs : List Replaced) × (outputs : List Replaced) × AreRight found pattern inputs outputs
-    × (Stopped (IsNotLoaded found how.Given) reply ⊎ ((p : Plan) × IsLoaded how.Given p × EndsLoaded remaining found p pattern inputs outputs reply)))
+    × (StoppedAside (takes_stdout outputs) (IsNotLoaded found how.Given) reply
+    ⊎ ((p : Plan) × IsLoaded how.Given p × EndsLoaded remaining found p pattern inputs outputs reply)))
 
 -- ---- `dpv one` and `dpv filter`
 
 -- a program and its captures: a pipeline of one port in this environment is loaded, and run over the two captures that the words name
 abbrev pub EndsSingle : {F : Type 0} → (F → Option (List ℕ)) → Found → Environment → ℕ → SingleFiles → Result Reply Reply → Type 0
-EndsSingle remaining found env region files reply = Stopped (λ r. (r.status ≡ 4) ⊎ HasNoProgram env files r) reply
-    ⊎ ((texts : FileMap) × (p : Plan) × (inputs : List Replaced) × (outputs : List Replaced) × IsSinglePlan (Some texts) env region files p
-    × ReadsAndWrites files inputs outputs × EndsOver remaining found p [] inputs outputs reply)
+EndsSingle remaining found env region files reply = Stopped (λ r. r.status ≡ 4) reply
+    ⊎ ((inputs : List Replaced) × (outputs : List Replaced) × ReadsAndWrites files inputs outputs
+    × (StoppedAside (takes_stdout outputs) (HasNoProgram env files) reply
+    ⊎ ((texts : FileMap) × (p : Plan) × IsSinglePlan (Some texts) env region files p × EndsOver remaining found p [] inputs outputs reply)))
 
 -- `dpv one`: the program is run with its certificate, on the port of that command
 abbrev pub EndsOne : {F : Type 0} → (F → Option (List ℕ)) → Found → Result Reply Reply → Type 0

@@ -34,6 +34,10 @@ outputs_kind {F} = kind (λ output. writer_contents {W = Guarded (OutputFile F)}
 abbrev pub file_taken : {F : Type 0} → OfBufWriter (Guarded (OutputFile F)) → Option (List ℕ)
 file_taken output = Some (file_took (buffered_writer output))
 
+-- whether one of these captures goes to standard output
+abbrev pub takes_stdout : List Replaced → Bool
+takes_stdout outputs = list_any (λ (one : Replaced). is_stream one.place) outputs
+
 -- A run of a pipeline with these calls refused over captures that are open, and what is said of it: with `--json` a document.
 pub record SaysRun {F : Type 0} (remaining : F → Option (List ℕ)) (found : Found) (p : Plan) (pattern : List ℕ) (is_taken : Bool)
     (ins ins' : List (OfBufReader (Watched (InputFile F)))) (outs outs' : List (OfBufWriter (Guarded (OutputFile F)))) (reply : Reply) : Type 0 where
@@ -65,7 +69,7 @@ pub record RunsOver {F : Type 0} (remaining : F → Option (List ℕ)) (found : 
   pub made : AreOutputs names outs
   pub reads : List ReadFile
   pub guarded : AreGuarded reads ins outs
-  pub says : SaysRun remaining found p pattern (list_any (λ (one : Replaced). is_stream one.place) outputs) ins ins' outs outs' reply
+  pub says : SaysRun remaining found p pattern (takes_stdout outputs) ins ins' outs outs' reply
 
 -- the status of captures that are not opened: 4 for lack of memory, else 3
 abbrev pub status_unopened : CaptureFault → ℕ

@@ -1,6 +1,6 @@
 -- Where a command stopped that was not done, with what was found right before. Faults are found in this order: the words; the files and the faults of
 -- loading (dp_request); a node that the pipeline does not have; the captures; the run.
-use Rattle.std.specs.Prelude.{◌≡◌, ◌⊎◌, Bool, ◌&&◌, Some, None, Result, MatchResult, codes}
+use Rattle.std.specs.Prelude.{◌≡◌, ◌⊎◌, [], Bool, true, false, ◌&&◌, Some, None, Result, MatchResult, codes}
 use Rattle.clap.specs.declared.parser.matches.Found.{Found}
 use Rattle.dp_captures.specs.Words.{rows_of}
 use Rattle.dp_console.specs.declared.reply.Reply.{Reply}
@@ -8,6 +8,7 @@ use Rattle.dp_model.specs.{Environments.Environment, Environments.fault_of, decl
 use Rattle.dp_load.specs.declared.{error.PipeError.PipeError, single.SingleFiles.SingleFiles}
 use Rattle.dp_load.specs.{Files.FileMap, Nodes.Fails, Singles.single_node}
 use Rattle.dp_request.specs.{Operands.IsFlag, Operands.calls_in, Operands.words_of, Reading.SaysCause}
+use Rattle.dp_runs.specs.Replies.{IsBoth}
 use Rattle.dp_cli.specs.Runs.{IsFilterPort, room_in, segs_in}
 
 -- a command was not done, for this reason
@@ -33,6 +34,17 @@ HasWrongNumber found = (room_in found ≡ None) ⊎ ((segs_in found ≡ None)
 -- whether `--json` and `--sizes` are both set, which `dpv check` refuses
 abbrev pub HasBoth : Found → Bool → Type 0
 HasBoth found both = (json : Bool) × (sizes : Bool) × IsFlag found (codes "json") json × IsFlag found (codes "sizes") sizes × ((json && sizes) ≡ both)
+
+-- What is said: if a capture goes to standard output, nothing else does, and standard error has all of it.
+pub record IsAside (is_taken : Bool) (said reply : Reply) : Type 0 where
+  pub status_is : reply.status ≡ said.status
+  pub same : is_taken ≡ false → reply ≡ said
+  pub none : is_taken ≡ true → reply.out.bytes.items ≡ []
+  pub all : is_taken ≡ true → IsBoth said.out said.err reply.err
+
+-- a command was not done, for this reason, which is said beside a capture that goes to standard output
+abbrev pub StoppedAside : Bool → (Reply → Type 0) → Result Reply Reply → Type 0
+StoppedAside is_taken Why reply = Stopped (λ r. (said : Reply) × Why said × IsAside is_taken said r) reply
 
 -- a program is not loaded
 abbrev pub HasNoProgram : Environment → SingleFiles → Reply → Type 0

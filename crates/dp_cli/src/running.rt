@@ -6,7 +6,7 @@ ghost use Rattle.dp_captures.specs.Words.{row_of, rows_of};
 ghost use Rattle.dp_engine.specs.Engines.{IsAscending};
 ghost use Rattle.dp_cli.specs.Commands.{EndsFilter, EndsLoaded, EndsOne, EndsRun, EndsSingle};
 ghost use Rattle.dp_cli.specs.Runs.{AreGiven, EndsOver, IsFilterPort, SaysRun, status_unopened};
-ghost use Rattle.dp_cli.specs.Stops.{HasWrongNumber, StopsAtWords};
+ghost use Rattle.dp_cli.specs.Stops.{HasWrongNumber, IsAside, StopsAtWords};
 ghost use Rattle.dp_load.specs.Singles.{HasOnePort};
 ghost use Rattle.dp_region.specs.Region.{IsRegionSize};
 ghost use Rattle.dp_request.specs.Operands.{calls_in, option_within, words_of};
@@ -23,7 +23,7 @@ use dp_load::{How, NodeName, Pipeline, SingleFiles, load_single};
 use dp_model::{Entry, Env, MAX_ROOM, MAX_SEGMENTS, MIN_PORT_ROOM, PoolSpec, PortSpec};
 use dp_region::{CACHE_LINE, MAX_REGION, MIN_REGION};
 use dp_request::{Given, Loaded, Request, load_pipeline, number_in, numbers_in, read_nodes};
-use dp_runs::{Printing, Watcher, problem_of_run, reply_of, run_over};
+use dp_runs::{Printing, Watcher, both, problem_of_run, reply_of, run_over};
 use dp_sources::{
     Because, Fault, FaultReason, Lent, ONE_REGION, Sources, Subject, folder_with, one_env,
 };
@@ -90,6 +90,27 @@ fn captures_in<'w, R>(request: &Request<'_, 'w, R>) -> Result<Replacements<'w>, 
     let inputs = captures_by(request, Direction::In, "in", "no-in")?;
     let outputs = captures_by(request, Direction::Out, "out", "no-out")?;
     Ok(Replacements { inputs, outputs })
+}
+
+/// What is said: if a capture goes to standard output, nothing else does, and standard error has all of it.
+fn aside(alloc: Global, reply: Reply, is_stdout_taken: bool) -> Reply
+    ensures { IsAside is_stdout_taken reply result }
+{
+    if !is_stdout_taken {
+        return reply;
+    }
+    let Reply {
+        status,
+        out,
+        err,
+        ..
+    } = reply;
+    Reply {
+        status,
+        out: Text::new(alloc),
+        err: both(out, &err),
+        is_json: false,
+    }
 }
 
 /// The reply to captures that are not opened. A capture that is not found may be in the folder of the pipeline file.
@@ -276,7 +297,7 @@ fn run_ready<K: CompiledPrograms, R: Files>(
     );
     if let Err(fault) = opened {
         remove_empty_outputs(rt, alloc, names.as_slice(), outputs.as_slice());
-        return Err(unopened(request, fault));
+        return Err(aside(alloc, unopened(request, fault), given.take_stdout()));
     }
     Ok(run_opened::<K, R>(
         request,
@@ -360,7 +381,7 @@ pub fn run_file<K: CompiledPrograms, R: Files>(request: &Request<'_, '_, R>) -> 
     let given = captures_in(request)?;
     match load_pipeline(request, How::Given) {
         Ok(loaded) => run_loaded::<K, R>(request, loaded, &given, pattern),
-        Err(reply) => Err(reply),
+        Err(reply) => Err(aside(request.alloc, reply, given.take_stdout())),
     }
 }
 
@@ -385,7 +406,8 @@ fn run_single<R: Files>(
     let pipeline = match load_single(alloc, env.copy(), region, files, &mut Lent(&sources)) {
         Ok(pipeline) => pipeline,
         Err(error) => {
-            return Err(unloaded(alloc, error, subject, &sources, request.flag("json")));
+            let reply = unloaded(alloc, error, subject, &sources, request.flag("json"));
+            return Err(aside(alloc, reply, given.take_stdout()));
         }
     };
     let pattern = Vec::new(alloc);

@@ -20,6 +20,6 @@ mod run;
 mod tracing;
 
 pub use closing::{Flushed, flush_outputs, problem_of, run_captures};
-pub use reply::{Printing, reply_of, say_stop, status_of};
+pub use reply::{Printing, both, reply_of, say_stop, status_of};
 pub use run::{Ran, Watcher, problem_of_run, run_line, run_over};
 pub use tracing::{Printed, TracedRun, trace_records};

@@ -82,8 +82,8 @@ pub(crate) fn printed_of(answer: &Result<Report, RunFault>) -> Option<&Report>
     }
 }
 
-/// One text after the other.
-fn both(first: Text, more: &Text) -> Text
+/// One text after the other; not whole if one of them is not.
+pub fn both(first: Text, more: &Text) -> Text
     ensures { spec.IsBoth first more.now result }
 {
     let mut text = first;
@@ -209,7 +209,7 @@ pub fn reply_of(alloc: Global, ran: &Ran, printing: &Printing<'_, '_>) -> Reply
             status,
             out,
             err,
-            is_json,
+            is_json: false,
         };
     }
     let out = both(main, &counts);

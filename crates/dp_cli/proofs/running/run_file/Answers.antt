@@ -18,5 +18,5 @@ returns-in-Err g c = inr (
   c.in_ok-given.given.inputs.items,
   c.in_ok-given.given.outputs.items,
   (c.in_ok-pattern.ensures.calls, c.in_ok-given.ensures.given),
-  inl c.in-Err.ensures.stops,
+  inl (c.in-Err.reply, c.in-Err.ensures.stops, rw (c.take_stdout.ensures) at c.aside.ensures),
 )

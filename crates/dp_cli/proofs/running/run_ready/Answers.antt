@@ -30,7 +30,7 @@ returns g c = record {
   made = rw (sym c.as_mut_slice-2.ensures.value) at c.in_default-opened.ensures.outputs;
   reads = c.as_slice.result.now;
   guarded = rw (sym c.as_mut_slice.ensures.value, sym c.as_mut_slice-2.ensures.value) at c.in_default-opened.ensures.guarded;
-  says = rw (c.take_stdout.ensures) at c.run_opened.ensures;
+  says = rw (c.take_stdout-2.ensures) at c.run_opened.ensures;
 }
 
 -- no run is over captures that were not opened
@@ -45,5 +45,5 @@ returns-in-Err g c = inr (record {
   outs = c.open_captures-opened.new.outputs.items;
   fault = c.in-Err.fault;
   first = c.in-Err.ensures.first;
-  status_is = c.unopened.ensures;
+  status_is = c.aside.ensures.status_is ∙ c.unopened.ensures;
 })
