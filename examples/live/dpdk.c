@@ -122,14 +122,18 @@ static struct rte_mbuf *mbuf_of(const uint8_t *bytes, uint32_t length)
     return NULL;
 }
 
-/* Sends the frames that wait at a port; those that its device does not take are counted. */
+/* Sends the frames that wait at a port. One that its device does not take is counted, and those after it are tried again: the device may refuse it
+   for its length alone. */
 static void send_waiting(struct worker *worker, uint16_t port)
 {
-    uint16_t waits = worker->waits[port];
-    uint16_t sent = waits == 0 ? 0 : rte_eth_tx_burst(port, worker->queue, worker->waiting[port], waits);
-    worker->unsent[port] += waits - sent;
-    while (sent < waits)
-        rte_pktmbuf_free(worker->waiting[port][sent++]);
+    uint16_t waits = worker->waits[port], done = 0;
+    while (done < waits) {
+        done += rte_eth_tx_burst(port, worker->queue, worker->waiting[port] + done, waits - done);
+        if (done == waits)
+            break;
+        rte_pktmbuf_free(worker->waiting[port][done++]);
+        worker->unsent[port]++;
+    }
     worker->waits[port] = 0;
 }
 

@@ -203,10 +203,16 @@ def inside(host: str) -> int:
     return 1 if wrong else 0
 
 
+def can_be_made(*link: str) -> bool:
+    """Whether a namespace can be made, and such an interface in it."""
+    if not shutil.which("ip") or not shutil.which("unshare"):
+        return False
+    return subprocess.run([*NAMESPACE, "ip", *link], capture_output=True).returncode == 0
+
+
 def run_in_namespace(host: pathlib.Path) -> int:
     """The status of the cases in a namespace of their own, or 0 where none can be made."""
-    made = shutil.which("ip") and shutil.which("unshare") and subprocess.run([*NAMESPACE, "ip", "link", "add", "type", "veth"], capture_output=True)
-    if not made or made.returncode != 0:
+    if not can_be_made("link", "add", "type", "veth"):
         print("sockets: af_packet NOT TRIED, since this user may not make network namespaces, or ip is not installed (Debian: iproute2)")
         return 0
     return subprocess.run([*NAMESPACE, sys.executable, __file__, str(host.resolve()), "inside"]).returncode
