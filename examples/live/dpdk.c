@@ -29,7 +29,7 @@
 #define QUEUE_SLOTS 512
 #define LCORE_MBUFS 8191
 #define POOL_CACHE 256
-#define MAX_FRAME 65536 /* longer ones are none of a card; net_pcap makes them wrongly */
+#define MAX_FRAME 65536 /* no card receives longer ones, and the mbufs that net_pcap makes of them are wrong */
 #define COMMANDS 256
 #define FLOWS (RTE_ETH_RSS_IP | RTE_ETH_RSS_TCP | RTE_ETH_RSS_UDP)
 
