@@ -37,6 +37,7 @@
 struct worker {
     struct lasting lasting;
     struct rte_ring *commands;
+    int has_ended; /* set by its lcore, for the control thread */
     uint16_t queue;
     uint16_t waits[MAX_PORTS];
     struct rte_mbuf *waiting[MAX_PORTS][MAX_BURST];
@@ -217,17 +218,27 @@ static void run_commands(struct worker *worker)
     }
 }
 
+/* Hands a command to an engine, unless its lcore has ended. */
+static void hand_to(struct worker *worker, const struct command *command)
+{
+    struct command *copy = (struct command *)malloc(sizeof *copy);
+    if (copy == NULL)
+        die("memory");
+    *copy = *command;
+    while (rte_ring_enqueue(worker->commands, copy) != 0) {
+        if (is_stopped || __atomic_load_n(&worker->has_ended, __ATOMIC_ACQUIRE)) {
+            free(copy);
+            return;
+        }
+        usleep(1000);
+    }
+}
+
 /* Hands a command to every engine. */
 static void hand_to_all(const struct command *command)
 {
-    for (uint16_t k = 0; k < lcores; k++) {
-        struct command *copy = (struct command *)malloc(sizeof *copy);
-        if (copy == NULL)
-            die("memory");
-        *copy = *command;
-        while (rte_ring_enqueue(workers[k].commands, copy) != 0 && !is_stopped)
-            usleep(1000);
-    }
+    for (uint16_t k = 0; k < lcores; k++)
+        hand_to(&workers[k], command);
 }
 
 /* The control thread: takes commands from the FIFO and from SIGUSR1. */
@@ -267,6 +278,7 @@ static int forward(void *argument)
     if (worker->queue > 0)
         open_lasting(&worker->lasting, &pipeline, limit);
     forward_rounds(worker);
+    __atomic_store_n(&worker->has_ended, 1, __ATOMIC_RELEASE);
     run_commands(worker);
     print_worker(worker);
     pthread_mutex_lock(&printing);
