@@ -485,8 +485,26 @@ def traces(program: str, top: pathlib.Path) -> list[tuple[str, bool]]:
     cases.append(("trace-one of another port", is_silent(program, strip, [*one, "in.pcap", "--port", "1"])))
     piped = subprocess.run([program, *one, "-"], cwd=strip, stdin=open(strip / "in.pcap", "rb"), capture_output=True, check=False)
     cases += summaries(program, strip)
+    cases.append(("trace of a record that is refused while a packet waits in a ring", has_refusal(program, strip)))
     cases.append(("trace-one of standard input", piped.stdout == run(program, strip, *one, "in.pcap").out and piped.returncode == 0))
     return cases
+
+
+def has_refusal(program: str, folder: pathlib.Path) -> bool:
+    """Whether a trace says that the call for a record was refused, although a packet in a ring runs in the same turn: the only buffer has the
+    first record, which waits in the ring for ever."""
+    node = 'node = "again.dpv"\n'
+    (folder / "again.dpv").write_text("enq p0,0,full\nexit\nfull: free p0\nexit\n")
+    (folder / "two.pcap").write_bytes(capture(2 * [bytes(60)]))
+    ring = f"[[ring]]\ncount = 2\nshare = 0\nhead = 0\ntail = 0\nfirst = 0\nlast = 0\nsegs = 1\n{node}"
+    port = f'[[port]]\npool = 0\nsegs = 1\nqueue = 2\n{node}in = "two.pcap"\nout = "out.pcap"\n'
+    (folder / "again.toml").write_text(f"region = 8192\n[[pool]]\ncount = 1\ncache = 0\nroom = 2176\n{ring}{port}")
+    lines = run(program, folder, "trace", "again.toml").out.decode().splitlines()
+    second = next((at for at, line in enumerate(lines) if line.startswith("record 2 port")), len(lines))
+    shown = [line.strip() for line in lines[second + 1 : second + 4]]
+    doc = json.loads(run(program, folder, "trace", "again.toml", "--json").out.splitlines()[1])
+    is_said = any("allocation call" in line for event in doc["events"] for line in event["changes"])
+    return shown[:2] == ["allocation call 2: refused", "ring 0"] and doc["outcome"] == "nobuf" and not is_said
 
 
 def summaries(program: str, folder: pathlib.Path) -> list[tuple[str, bool]]:

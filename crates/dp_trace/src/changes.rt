@@ -22,7 +22,7 @@ pub struct Snapshot {
     rings: [u32; 8],
     pub lists: [u32; 8],
     /// The number of allocation calls.
-    calls: u64,
+    pub calls: u64,
 }
 
 /// The packet in a register, if there is one.
@@ -54,18 +54,17 @@ impl Snapshot {
     }
 
     /// Adds the result of the last allocation call, if there was one: it was made if a register has a new packet.
-    pub fn say_call(&self, before: &Snapshot, out: &mut Text) {
+    fn say_last_call(&self, before: &Snapshot, out: &mut Text) {
         let mut packets = self.packets.iter().zip(&before.packets);
         let is_made = packets.any(|(now, before)| now.is_some() && before.is_none());
-        let (call, answer) = (self.calls, if is_made { "made" } else { "refused" });
-        if call > before.calls {
-            out.say(format_args!("      allocation call {call}: {answer}\n"));
+        if self.calls > before.calls {
+            say_call(self.calls, if is_made { "made" } else { "refused" }, out);
         }
     }
 
     /// Adds what changed since another snapshot.
     pub fn say_changes(&self, before: &Snapshot, view: &View<'_>, out: &mut Text) {
-        self.say_call(before, out);
+        self.say_last_call(before, out);
         say_numbers(&before.numbers, &self.numbers, out);
         for k in 0..8u8 {
             let look = self.packets[usize::from(k)];
@@ -76,6 +75,11 @@ impl Snapshot {
         say_counts(&before.rings, &self.rings, ("ring", "", "waiting"), out);
         say_counts(&before.lists, &self.lists, ("port", " list", "queued"), out);
     }
+}
+
+/// Adds an allocation call with its result.
+pub fn say_call(call: u64, answer: &str, out: &mut Text) {
+    out.say(format_args!("      allocation call {call}: {answer}\n"));
 }
 
 /// Adds the numbers that changed, also in hexadecimal digits if these differ.

@@ -1,6 +1,6 @@
 //! A record of a trace: what is printed of it, as text or as a JSON document.
 
-use crate::changes::{BytesBefore, Snapshot, bytes_before, say_count};
+use crate::changes::{BytesBefore, Snapshot, bytes_before, say_call, say_count};
 use crate::picked::Only;
 use crate::shown::Shown;
 use crate::summary::say_summary;
@@ -128,8 +128,9 @@ impl<'a> Record<'a> {
             Entry::Port(port) => usize::from(port),
             Entry::Ring(ring) => self.ports.saturating_add(usize::from(ring)),
         };
-        if matches!(node, Entry::Port(_)) {
-            self.note_received(view);
+        match node {
+            Entry::Port(_) => self.note_received(view),
+            Entry::Ring(_) => self.note_refused(view),
         }
         let name = NodeName(node);
         self.text.say(format_args!("{name}\n"));
@@ -150,6 +151,15 @@ impl<'a> Record<'a> {
         if let Some(pattern) = self.shown.picked.pattern {
             self.has_bytes = pattern.is_in(bytes);
         }
+    }
+
+    /// Adds that the call for the record was refused, if no node run has shown its result: the next one, if any, is on a packet in a ring.
+    fn note_refused(&mut self, view: &View<'_>) {
+        let calls = view.calls();
+        if calls > self.before.calls {
+            say_call(calls, "refused", &mut self.text);
+        }
+        self.before.calls = calls;
     }
 
     /// The instruction at a label ran.
@@ -197,7 +207,7 @@ impl<'a> Record<'a> {
         let (now, number) = (Snapshot::of(view), self.arrival.0);
         let (outcome, usual) = words_of(turn.outcome);
         let (runs, cuts, steps) = (turn.runs, turn.cuts, turn.steps);
-        now.say_call(&self.before, &mut self.text);
+        self.note_refused(view);
         self.text.say(format_args!("turn {outcome} runs {runs}"));
         self.text.say(format_args!(" cuts {cuts} steps {steps}\n"));
         for (port, packets) in now.lists.iter().enumerate() {
