@@ -9,10 +9,11 @@ programs. PROGRAM is by default the one that ./dpv builds and runs.
 tests/model computes the expected result of a case from the files alone: the status, both outputs, and each byte that is written; so the
 texts are those of docs/, outputs are whole captures, and all buffers are free at the end. No other file is written. A fourth of the cases
 run once more, in one of these ways, with the same result: as they are; without caches, if pools have some; with reads and writes of a few
-bytes each; with --json, where the document has what the text has. Or an allocation is refused: then a case does the same, or reports it with
-status 4 and has written nothing or all. No case may take more than a minute of processor time, half an hour by the clock, or 3 GiB of memory.
-Each finding is kept in its own folder: the files, the words, the expected and the actual result; `--again` tries such a folder once more.
-Prints a line for each, and a count; exits with 1 if there is a finding.
+bytes each; with --json, where the document has what the text has; as a trace of all records, which has to add up to the report. Or an
+allocation is refused: then a case does the same, or reports it with status 4 and has written nothing or all. No case may take more than a
+minute of processor time, half an hour by the clock, or 3 GiB of memory. Each finding is kept in its own folder: the files, the words, the
+expected and the actual result; `--again` tries such a folder once more. Prints a line for each, and a count; exits with 1 if there is a
+finding.
 """
 import argparse
 import contextlib
@@ -277,14 +278,30 @@ def runs_as_document(place: Place, case: Case, ended: Ended) -> str | None:
     return None if doc["fault"] == fault and says(doc, ended.printed) else f"another document: {ended[:3]}, then {made.printed!r}"
 
 
+def runs_as_trace(place: Place, case: Case, ended: Ended) -> str | None:
+    """What is wrong if a trace of all records of a run that went well does not add up to what the run reported."""
+    words = [word for word in case.words[1:] if word != "--counts"]
+    doc, shown = document(place.run(["run", *words, "--json"]).printed.encode()), place.run(["trace", *words, "--records", "1000"])
+    turns, ports = Counter(re.findall("^turn ([a-z]+) runs", shown.printed, re.M)), doc["ports"]
+    sent = sum(int(number) for number in re.findall("^port [0-7] sends ([0-9]+)$", shown.printed, re.M))
+    calls = re.findall("^ +allocation call ([0-9]+): (made|refused)$", shown.printed, re.M)
+    refused = sum(it["nobuf"] for it in ports) + sum(it["refused"] for it in doc["pools"])
+    adds_up = all(turns[kind] == sum(it[kind] for it in ports) for kind in ("received", "nobuf", "oversize"))
+    adds_up = adds_up and sent == sum(it["sent"] for it in ports) and [number for number, _ in calls] == [str(k + 1) for k in range(doc["calls"])]
+    adds_up = adds_up and [answer for _, answer in calls].count("refused") == refused
+    return None if adds_up and shown.status == 0 else f"a trace does not add up to {ended.printed!r}"
+
+
 def runs_once_more(place: Place, case: Case, ended: Ended, how: str, number: int, shims: pathlib.Path | None) -> str | None:
-    """What is wrong with a case, run once more: as it is or without caches, with this many bytes a call, with this allocation refused, or as a document."""
+    """What is wrong with a case, run once more: as it is or without caches, with this many bytes a call, with this allocation refused, as a document or a trace."""
     place.put_case(case)
     value = str(number).encode()
     if how == "short" and shims is not None:
         return runs_with_short_calls(place, case, ended, f"with {number} bytes a call", {b"LD_PRELOAD": bytes(shims / "short.so"), b"MOST": value})
     if how == "refused" and shims is not None:
         return runs_refused(place, case, ended, {b"LD_PRELOAD": bytes(shims / "refused.so"), b"REFUSE": value})
+    if how == "trace" and case.kind == "run" and ended.status == 0:
+        return runs_as_trace(place, case, ended)
     if how == "json" and case.kind in ("one", "check", "run"):
         return runs_as_document(place, case, ended)
     return runs_without_cache(place, case, ended)
@@ -295,7 +312,7 @@ def judge(place: Place, case: Case, rng: Random, tally: Tally, shims: pathlib.Pa
     ended, wrong = fault_of(place, case, tally)
     if wrong or rng.random() < 0.75:
         return wrong
-    how = rng.choice(("cache", "cache", "json", "short", "refused"))
+    how = rng.choice(("cache", "cache", "json", "trace", "short", "refused"))
     tally.again[how] += 1
     number = rng.choice((1, 1, 2, 7, 1000)) if how == "short" else int(2 ** (rng.random() * 9))
     return runs_once_more(place, case, ended, how, number, shims)
@@ -395,7 +412,7 @@ def again(program: str, folder: pathlib.Path, shims: pathlib.Path | None) -> int
         os.chdir(name)
         place = Place(program)
         ended, wrong = fault_of(place, case, Tally())
-        ways = [("short", 1), *(("refused", number) for number in range(1, 100)), ("json", 0), ("cache", 0)]
+        ways = [("short", 1), *(("refused", number) for number in range(1, 100)), ("json", 0), ("trace", 0), ("cache", 0)]
         for how, number in ways:
             wrong = wrong or runs_once_more(place, case, ended, how, number, shims)
         os.chdir("/")
