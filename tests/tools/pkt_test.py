@@ -1572,6 +1572,26 @@ class Passed(unittest.TestCase):
 class Reached(unittest.TestCase):
     """What no packet reaches, which is left out, and the note on it."""
 
+    LENGTHS = "header h { a:8 b:8 } after eth if eth.type == 5\n  length {}\nheader p { x:32 } after h if 1\nif p.x == 3 { drop }\nsend port"
+
+    def test_bits_without_a_length(self) -> None:
+        """Bits on which a length does not depend take no instructions; a last value that the bits cannot exceed takes no test."""
+        same = (("(v >> 4) * 4 - 12 for v:8 in 0x50..0xff", "v * 4 - 12 for v:4 in 5..15"), ("(v & 0xf0) + 4 for v:8 in 0..0x7f", "v * 16 + 4 for v:4 in 0..7"),
+                ("(v >> 1) + 2 & 6 for v:8 in 0..5", "v + 2 & 6 for v:7 in 0..2"), ("v * 0 + 8 for v:8 in 0..255", "8 for v:1 in 0..1"))
+        for one, other in same:
+            with self.subTest(one):
+                self.assertEqual(*(programs.assemble(compile_text(self.LENGTHS.replace("{}", it)).encode()) for it in (one, other)))
+        self.assertNotIn(",16,", compile_text(self.LENGTHS.replace("{}", same[0][0])))
+
+    def test_lengths_of_some_bits(self) -> None:
+        """Lengths that grow by different numbers, of bits without the last one or two."""
+        for formula, bits, size in (("(v >> 1) + (v >> 3) + 4 for v:8 in 0..15", 15, lambda v: (v >> 1) + (v >> 3) + 4), ("(v >> 2) * 4 + 2 for v:8 in 4..19", 255, lambda v: (v >> 2) * 4 + 2)):
+            given = [bytes(12) + b"\0\5" + bytes([v]) + bytes(at - 1) + b"\0\0\0\3" + bytes(20) for v in range(24) for at in range(2, 24)]
+            left = [it for it in given if it[14] > bits or not (4 <= it[14] <= 19 or bits == 15) or it[14 + size(it[14]) :][:4] != b"\0\0\0\3"]
+            with self.subTest(formula):
+                self.assertLess(len(left), len(given))
+                self.assertEqual(sent(self.LENGTHS.replace("{}", formula), *given)[0], left)
+
     def test_what_is_known_of_a_number_holds_after_each_instruction(self) -> None:
         rng, work = random.Random(5), {"and": operator.and_, "or": operator.or_, "xor": operator.xor, "shr": operator.rshift, "shl": operator.lshift,
                                        "add": operator.add, "sub": operator.sub}

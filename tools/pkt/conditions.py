@@ -332,11 +332,7 @@ def at_register(way: Way, header: Header, before: Header, left: dict[int, int], 
     else:
         first = min(left)
         at_place(if_length(way, span, first), header, base + left.pop(first), found, missing)
-    value = registers.load(way, span)
-    way.emit("jlt", value, min(left), to=missing)
-    s = way.emit("jlt", value, max(left) + 1, to=Join())
-    way.jump(missing)
-    s.pins.clear()
+    s = between(way, span, min(left), max(left), missing)
     value = registers.load(s, span)
     for it, size in left.items():
         s.emit("iflen", f"p{s.held[THIS]}", base + size + header.size + s.far.padding, to=missing)
@@ -347,6 +343,18 @@ def at_register(way: Way, header: Header, before: Header, left: dict[int, int], 
         far = s.far if s.far != NEAR else go_far(s, before, left)
         s.far, s.found[header.name] = replace(far, size=header.size), FAR
         s.jump(found)
+
+
+def between(way: Way, span: Span, low: int, high: int, missing: Join[Way]) -> Way:
+    """The path on which bits are from one value to another."""
+    value = registers.load(way, span)
+    way.emit("jlt", value, low, to=missing)
+    if high < span.largest:
+        there = way.emit("jlt", value, high + 1, to=Join())
+        way.jump(missing)
+        way = there
+    way.pins.clear()
+    return way
 
 
 def may_share(way: Way, names: list[str], own: str) -> bool:
@@ -397,11 +405,7 @@ def first_at(way: Way, names: list[str], own: str, missing: Join[Way], absent: J
     step = left[first + 1] - left[first]
     yield from first_of(if_length(way, span, first), names, absent)
     del left[first]
-    value = registers.load(way, span)
-    way.emit("jlt", value, first + 1, to=missing)
-    far = way.emit("jlt", value, max(left) + 1, to=Join())
-    way.jump(missing)
-    far.pins.clear()
+    far = between(way, span, first + 1, max(left), missing)
     far.variables[REACH] = registers.fresh(far).r
     registers.copy_to(far, Value(register=far.variables[REACH]), registers.load(far, span))
     last = max(left)

@@ -1,12 +1,13 @@
 """Reads the declarations of headers: their fields, their clauses, and `extend`."""
 from collections.abc import Callable
+from itertools import pairwise
 
 from ..cures import FIELD
 from ..headers import Header, Span, check
-from ..syntax import Field, Name, Number, Place, Wide, parts, require
+from ..syntax import Field, Name, Node, Number, Place, Wide, parts, require
 from .expressions import Expressions
 from .grammar import ASSIGNMENTS, MAX_HEADERS, NUMBERS, OTHER_LENGTH
-from .nodes import as_wide, constant_of, substituted
+from .nodes import as_wide, combined, constant_of, substituted
 from .program import Program
 
 
@@ -122,6 +123,16 @@ class HeaderDeclarations(Expressions):
             is_own = not isinstance(it, Field) and (not isinstance(it, Name) or it.name == variable)
             require(is_own, it.at, "a length is calculated from its own variable and constants", OTHER_LENGTH)
         header.sizes = {value: constant_of(substituted(formula, Number(header.at, value))) for value in range(low, high + 1)}
+        self.leave_bits_out(header, Name(named, variable))
+
+    def leave_bits_out(self, header: Header, first: Name) -> None:
+        """Leaves out the last of the first bits, on which the length does not depend, as (v >> 4) * 4 depends on four of eight."""
+        sizes, bits = header.sizes, header.bits
+        while bits > 1 and all(sizes.get(value ^ 1) == size for value, size in sizes.items()):
+            sizes, bits = {value >> 1: size for value, size in sizes.items()}, bits - 1
+        if bits < header.bits:
+            header.formula = formula_of(sizes, first) or substituted(header.formula, combined("<<", first, Number(header.at, header.bits - bits)))
+            header.sizes, header.bits = sizes, bits
 
     def cure_of_range(self, low: int, high: int) -> str:
         """The cure for a range of more than 256 values, of which the last eight bits are the length, and what is before them one number for each header."""
@@ -146,6 +157,16 @@ class HeaderDeclarations(Expressions):
             it = self.field()
             header.over += (it.high, it.low) if isinstance(it, Wide) else (it,)  # type: ignore[assignment]
         header.optional = self.may("optional")
+
+
+def formula_of(sizes: dict[int, int], first: Name) -> Node | None:
+    """A formula for lengths that grow by the same number with each value, or nothing."""
+    (low, size), steps = next(iter(sizes.items())), {other - one for one, other in pairwise(sizes.values())}
+    step = steps.pop() if len(steps) == 1 else 0
+    if step < 1:
+        return None
+    rest, product = size - low * step, combined("*", first, Number(first.at, step))
+    return combined("+" if rest >= 0 else "-", product, Number(first.at, abs(rest)))
 
 
 # What reads the clauses of a header.

@@ -68,7 +68,7 @@ class SymbolicRun(SourceRun):
             return
         values = header.extent.values
         plain = [k for k in values if self.number(header.extent.number, {header.extent.name: k}) == header.size]
-        if plain and plain != [values[0]]:
+        if plain != list(values)[: len(plain)]:
             raise Left(f"options of {name}")
         first = val(self.bits(8 * self.found[name], header.extent.bits))
         self.tight.append((lt(self.this[-1].tail, const(OPTIONS_ROOM)), lt(first, const(values[0] + len(plain)))))
