@@ -1,6 +1,6 @@
 """Lowering of Internet checksums: those that `mend` updates, and those of pushed headers."""
 from . import conditions, registers
-from .headers import Header, Span
+from .headers import Header, Span, may_both_hold
 from .registers import Value
 from .state import EVERYTHING, Needs
 from .syntax import Field, Mend, Node, Pushed, require
@@ -17,7 +17,8 @@ def without_sum(way: Way, target: Field) -> tuple[str, str]:
     one, and so may the header itself after another one."""
     own, name = way.headers[target.header], target.name
     fault = f"no checksum covers {own.name}.{name}"
-    others = [it.name for it in way.headers.values() if it.sum and it.follows.keys() & own.follows.keys() and it.fields.get(name) == own.fields[name]]
+    alike = [it for it in way.headers.values() if it.sum and it.fields.get(name) == own.fields[name]]
+    others = [it.name for it in alike if any(may_both_hold(own.follows[g], it.follows[g]) for g in it.follows.keys() & own.follows.keys())]
     after = [it for it in own.follows if any(way.headers[other].payload for other in way.headers[it].before)]
     if others or not after:
         return fault, " else ".join(f"if {it} {{ mend {it}.{name} = .. }}" for it in others) or "assign without `mend`"
@@ -30,7 +31,7 @@ def do_mend(way: Way, it: Mend, after: Join[Way], _: Join[Way]) -> None:
     own, over, field = way.headers[it.target.header], way.headers.covering(it.target), f"{it.target.header}.{it.target.name}"
     names = [name for name in chain(way, own.name) if way.headers[name].payload or name == own.name and own.sum]
     require(names or over, way.at, *without_sum(way, it.target))
-    require(own.sum != it.target.name, way.at, f"{field} is the checksum itself", "assign without `mend`")
+    require(own.sum != it.target.name, way.at, f"{field} is the checksum itself", f"`mend` of what it covers updates it, and {field} = .. writes it")
     for name in names:
         require_even(way, name, own.name)
     assign_field(way, it.target, registers.evaluate(way, it.value))

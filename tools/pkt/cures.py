@@ -27,7 +27,7 @@ CURES = {
     ".": "a field has no parts, and tcp.flags & 2 is a bit of one; an IPv4 address has four parts",
     "{": f"a block comes after a condition; {LIST}",
     "}": "an item is missing before it: a list has one at least, and no comma at its end, and a range has two ends",
-    "[": "a list is within braces, x in {1, 2}; a byte of a header is a field, as tcp.flags",
+    "[": "a list is within braces, x in {1, 2}; there are no arrays: header mine { a:16 b:8 } after udp if 1 names the bytes after udp",
     '"': "a text ends in its line",
     "'": "a text is within double quotes, and a number within none",
     "\\": "a statement may go on in the next line without a sign",
@@ -75,7 +75,11 @@ SLIPS = {
     "mend ipv4.dst = 10.0.0.1 changes an address and its checksums": "dnat snat nat masquerade",
     "a rule is as if tcp.dport == 80 { drop }": "host src dst ip ip6 ether rule iptables nft add",
     "port == 0 asks where the packet came from, and send 1 sends it": "meta iif iifname oif oifname in_port out_port ingress_port egress_port egress_spec",
-    "no program keeps anything from packet to packet; tcp.flags & 16 is in all but the first one": "ct conntrack stateful register meter limit quota",
+    "no program keeps anything from packet to packet; tcp.flags & 16 is in all but the first one": "ct conntrack stateful register remember",
+    "no program keeps anything from packet to packet or knows the time, as a rate needs; ipv4.id & 15 == 0 is true of one packet in 16":
+        "meter limit quota rate police policer shape shaper bucket token tokens",
+    "no program splits a packet or puts pieces together; need ipv4.pieces == 0 asks for whole ones": "fragment defragment reassemble split",
+    "let a = eth.src, and then eth.src = eth.dst and eth.dst = a, exchange two fields": "swap exchange",
     "def f() { .. } gives a block a name; nothing else is jumped to": "goto jump call label",
     "if length > 100 asks for the length": "greater less",
     "compare with ==, !=, <, >, <= or >=": "eq ne neq gt lt ge le equals",
@@ -115,7 +119,7 @@ FIELDS = {
     "sum": "checksum csum chksum check cksum hdrchecksum", "len": "length total_len totallen tot_len total_length plen payload_len size",
     "pcp tc": "prio priority cos", "vid": "id vlan_id vlanid tag tci", "type": "ethertype ether_type h_proto", "sport": "src_port srcport",
     "dport": "dst_port dstport", "op": "oper opcode", "window": "win", "tos class": "tos dscp tc traffic_class", "flow": "flowlabel flow_label fl",
-    "ihl off": "hdrlen hlen doff data_offset", "frag": "frag_off fragoffset offset", "urgent": "urg_ptr urgptr", "bottom": "s bos",
+    "ihl off": "hdrlen hlen doff data_offset", "frag": "frag_off fragoffset frag_offset offset", "urgent": "urg_ptr urgptr", "bottom": "s bos",
 }  # fmt: skip
 # Bits that others give names of their own.
 BITS = {"tcp": {"fin": 1, "syn": 2, "rst": 4, "psh": 8, "ack": 16, "urg": 32, "ece": 64, "cwr": 128}, "ipv4": {"mf": 1, "df": 2}}

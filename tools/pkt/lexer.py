@@ -171,7 +171,9 @@ class Lexer:
         name, fields = self.name("a field", may_be_reserved=True), {**self.headers[header].fields, **self.headers[header].wide}
         if name.word not in fields:
             near = name.word if name.word in self.headers else field_meant(header, name.word, fields)
-            cure = f"{f'did you mean {near}? ' if near else ''}its fields are {', '.join(fields)}"
+            are_halves = f"{name.word}_hi" in fields and f"{name.word}_lo" in fields
+            meant = f"{name.word}:128 in the declaration has both halves; " if are_halves else f"did you mean {near}? " if near else ""
+            cure = f"{meant}its fields are {', '.join(fields)}"
             raise SourceError(name, f"{header} has no field {name.word}", cure)
         return name.word
 

@@ -15,9 +15,10 @@ def as_side(node: Node) -> Node:
 
 def as_number(node: Node) -> Node:
     """A node that must be a number of at most 64 bits, other than the length."""
-    is_one = not isinstance(node, Wide)
-    require(is_one, node.at, "an IPv6 address is only compared with == and !=, looked for by `in`, and assigned", "its halves are numbers, as ipv6.src_hi; "
-            "const A = 2001:db8::1 names an address")
+    if isinstance(node, Wide):
+        halves = " and ".join(f"{it.header}.{it.name}" for it in (node.high, node.low) if isinstance(it, Field))
+        cure = f"{halves} are its halves, which are numbers" if halves else "const A = 2001:db8::1 names an address, and ipv6.src_hi is half of one, a number"
+        raise SourceError(node.at, "an IPv6 address is only compared with == and !=, looked for by `in`, and assigned", cure)
     require(not isinstance(node, Length), node.at, "the length is only compared with a constant", "no instruction has it as a number, but ipv4.len is one")
     return as_side(node)
 
