@@ -1697,6 +1697,12 @@ class Reached(unittest.TestCase):
             "header h { a:8 } after eth if eth.type == 5 after vlan if vlan.type == 5\nneed h": "line 1: vlan is named nowhere else, so h is never",
             "header h { a:8 } after eth if eth.type == 5 after udp if udp.dport == 5\nif h { drop }\nif udp.sport == 5 { drop }":
                 "line 1: udp is looked for later than h, which is never looked for after it; if udp {} looks for it, before h is used",
+            "if tcp { mend ipv4.dscp = 46\nipv6.class = 184 }": "line 2: no packet that comes here has ipv6, and all are dropped; if ipv6 { .. } around this lets",
+            "otherwise send port\nif udp { tcp.window = 5 }": "line 2: no packet that comes here has tcp, and `otherwise` gets them all",
+            "if udp.dport == 53 and not ipv4.src in 10.0.0.0/8 {\n  let a = 5\n  mend ipv4.ttl = a\n}":
+                "line 1: `not` holds for packets without ipv4 too, which are dropped in line 3; `ipv4 and not ..` passes them by",
+            "if not ipv4.ttl > 1 { mend ipv4.ttl = 9 }": "line 1: `not` holds for packets without ipv4 too, which are dropped here",
+            "let k = 0\nif tcp.dport == 7 { k = ipv4.src drop }\nif ipv4.src == k { drop }": "line 2: nothing reads k before the program ends",
         }
         for source, text in wanted.items():
             with self.subTest(source):
@@ -1717,6 +1723,10 @@ class Reached(unittest.TestCase):
                        f"{pppoe}\nif pppoe.session == 5 {{ drop }}\nneed ipv4", f"{pppoe}\nif pppoe {{}}\nmend ipv4.ttl -= 1",
                        "header h { a:8 } after ipv4 if ipv4.proto == 200 after ipv6 if ipv6.next == 200\nneed h",
                        "need ipv4.len >= 28\nneed ipv4.len - 28 < 512", "need ipv4.len > 40 and ipv4.len - 40 < 100",
+                       "if ipv4 and not ipv4.ttl > 1 { mend ipv4.ttl = 9 }", "if icmp and not ipv4.ttl > 1 { mend ipv4.ttl = 9 }", "if not ipv4.ttl > 1 { drop }",
+                       "if not ipv4.ttl > 1 { if icmp { mend ipv4.ttl = 9 } }", "otherwise send port\nif not ipv4.ttl > 1 { mend ipv4.ttl = 9 }",
+                       "if not ipv4.ttl > 1 { if not ipv4 { drop }\nmend ipv4.ttl = 9 }", "def f() { mend ipv4.ttl = 9 }\nif arp { f() }\nelse { f() }",
+                       "ports 2\nlet k = 0\nif tcp.dport == 7 { k = 1 send k }", "let k = 0\nwhile k < 3 { k += 1 if tcp { k = 3 } }", "if tcp { ipv4.tos = 5 }\nif ipv6 { ipv6.class = 5 }\nipv4.sum = 0",
                        "tcp.sum = 0\nmend ipv4.src = 5\ntcp.sum = 7", "cut 4\nif tcp.dport == 80 { drop }"):
             with self.subTest(source):
                 self.assertEqual(compiled(source + "\nsend port").note, "")

@@ -33,7 +33,7 @@ def notes_of(program: Program) -> list[str]:
     statements = list(parts(program.statements))
     found = [*program.notes.items(), *stale(statements, program.headers), *kept(statements), *in_front(statements, program.headers), *unasked(program)]
     found += [*taken_off(program), *zeros(statements), *untyped(statements, program.headers), *cleared(statements, program.headers), *sent_nowhere(program), *sent_to_a_field(statements)]
-    found += [*tags_late(program), *without_pieces(program, statements)]
+    found += [*tags_late(program), *without_pieces(program, statements), *negated(program, statements), *forgotten(program.statements)]
     said = dict.fromkeys(f"{program.rows[at.line].place}: {OWN.sub('', text)}" for at, text in sorted(found, key=lambda it: it[0][:2]))
     return [*list(said)[:MAX_NOTES], *([f"{len(said) - MAX_NOTES} notes more"] if len(said) > MAX_NOTES else [])]
 
@@ -179,6 +179,61 @@ def without_pieces(program: Program, statements: list[Node]) -> Iterator[Noted]:
             if name:
                 said = f"a later fragment has no {name}, and is dropped here"
                 yield it.body[0].at, f"{said}; if {name} {{ .. }} in place of the test of the protocol passes it by"
+
+
+def negated(program: Program, statements: list[Node]) -> Iterator[Noted]:
+    """Blocks after `not` with a test of a header, which packets without the header come to as well, and are dropped by what needs it there. A program
+    that says what happens otherwise knows of them."""
+    headers = program.headers
+    for it in () if program.otherwise else statements:
+        asked = joined_by_and(it.condition) if isinstance(it, If) else []
+        said = {name for one in asked if not isinstance(one, (Not, Or)) for part in parts(one) for name in headers_of(part, headers)}
+        for one in asked:
+            tested = {part.header for part in parts(one) if isinstance(part, Field)} if isinstance(one, Not) and isinstance(one.condition, Compare) else set[str]()
+            name = min(tested - said.union(*(always_before(other, headers) for other in said)), default="")
+            place = needed_in(it.body, name, headers) if name and isinstance(it, If) else None
+            if place:
+                where = "here" if place.line == it.at.line else f"in {program.rows[place.line].place}"
+                yield it.at, f"`not` holds for packets without {name} too, which are dropped {where}; `{name} and not ..` passes them by"
+
+
+def joined_by_and(it: Node) -> list[Node]:
+    """The conditions that `and` joins."""
+    found = list[Node]()
+    while isinstance(it, And):
+        found, it = [it.right, *found], it.left
+    return [it, *found]
+
+
+def always_before(name: str, headers: Headers) -> set[str]:
+    """The headers without which this one is never found."""
+    found = set[str]()
+    while len(headers[name].follows) == 1:
+        name = next(iter(headers[name].follows))
+        found.add(name)
+    return found
+
+
+def needed_in(text: Block, name: str, headers: Headers) -> Place | None:
+    """The first statement of a block that needs a header, for which no condition before it asks."""
+    for it in text:
+        is_asked = isinstance(it, (If, Need, While))
+        used = {other for part in parts(it.condition if is_asked else it) for other in headers_of(part, headers)}
+        if is_asked and name in used | set[str]().union(*(headers[other].before for other in used)):
+            return None
+        if any(isinstance(part, Field) and part.header == name for part in (() if is_asked else parts(it))):
+            return it.at
+    return None
+
+
+def forgotten(text: Block) -> Iterator[Noted]:
+    """Values that a variable gets before the program ends, where nothing reads it: it begins anew with each packet."""
+    for block in blocks_of(text):
+        for number, it in enumerate(block):
+            rest = block[number + 1 :]
+            if isinstance(it, Assign) and isinstance(it.target, Name) and rest and not goes_on(rest):
+                if all(part.name != it.target.name for part in parts(rest) if isinstance(part, Name)):
+                    yield it.at, f"nothing reads {it.target.name} before the program ends, and no variable is kept from packet to packet"
 
 
 def sent_nowhere(program: Program) -> Iterator[Noted]:

@@ -52,7 +52,16 @@ def compile_unit(program: Program, unit: Unit) -> Graph:
     for way in end.ways:
         way.drop()
     refuse_unreached(program.statements, unit.reached, counters_of(program.statements))
+    note_lacking(program, unit)
     return Graph(first)
+
+
+def note_lacking(program: Program, unit: Unit) -> None:
+    """Notes the statements that need a header which no packet has that comes there."""
+    end = "`otherwise` gets them all" if program.otherwise else "all are dropped"
+    for at, name in unit.lacking.items():
+        if name and at not in unit.served:
+            program.notes[at] = f"no packet that comes here has {name}, and {end}; if {name} {{ .. }} around this lets them go on"
 
 
 def block(ways: list[Way], text: Block, after: Join[Way]) -> None:
@@ -154,6 +163,7 @@ def statement(way: Way, it: Node, after: Join[Way]) -> None:
     if type(it) in BLOCKS:
         return BLOCKS[type(it)](way, it, after)
     for s in paths(lambda found: touch_needed(way, it, found, missing)):
+        s.unit.served.add(it.at)
         s.unit.needs, failed = after.needs, Join[Way]()
         if type(it) in LAST:
             LAST[type(it)](s, it, after, missing)
@@ -162,14 +172,20 @@ def statement(way: Way, it: Node, after: Join[Way]) -> None:
             s.jump(after)
             body(it.fallback if isinstance(it, (Lookup, Clone, New)) else None, failed, after)
     for s in missing.begin():
+        s.unit.lacking[it.at] = next((name for name in names_needed(s, it) if s.found.get(name) is None), "")
         otherwise(s)
+
+
+def names_needed(way: Way, it: Node) -> list[str]:
+    """The headers that a statement names, without its `else` part."""
+    if isinstance(it, Pop):
+        return list(it.path)
+    return conditions.headers_of(way, replace(it, fallback=None) if isinstance(it, (Lookup, Send, Clone, New)) else it)
 
 
 def touch_needed(way: Way, it: Node, found: Join[Way], missing: Join[Way]) -> None:
     """Looks for the headers that a statement needs."""
-    if isinstance(it, Pop):
-        return conditions.touch(way, it.path, found, missing)
-    names = conditions.headers_of(way, replace(it, fallback=None) if isinstance(it, (Lookup, Send, Clone, New)) else it)
+    names = names_needed(way, it)
     if not isinstance(it, Push) or not way.unit.tag_follows(it):
         return conditions.touch(way, names, found, missing)
     tag = it.headers[0].header

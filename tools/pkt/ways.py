@@ -19,12 +19,14 @@ TOO_MUCH = "`need` what most packets have, or find it out once for all; a prefix
 
 
 class Unit:
-    """What all paths of a program share: facts `needs` after the current statement, statements `reached`, headers `near` that need a constant place,
+    """What all paths of a program share: facts `needs` after the current statement, statements `reached`, by their places those that were `served` with
+    all headers that they need and those `lacking` one, with its name, headers `near` that need a constant place,
     whether `mend` statements in a row update checksums together, and whether the values of pushed headers are calculated in turn."""
 
     def __init__(self, program: Program, is_together: bool = True, is_in_turn: bool = False) -> None:
         self.program, self.headers, self.needs, self.blocks, self.reached = program, program.headers, NOTHING, 0, set[int]()
         self.is_together, self.is_in_turn = is_together, is_in_turn
+        self.served, self.lacking = set[Place](), dict[Place, str]()
         self.known: dict[int, tuple[Any, Needs]] = {}
         self.known_from: dict[int, tuple[Any, list[Needs]]] = {}
         self.appended = 0
