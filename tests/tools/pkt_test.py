@@ -1883,6 +1883,13 @@ class Page(unittest.TestCase):
         frame = eth(ipv4(1, bytes(8)))
         self.assertEqual(sent(text, frame)[:2], [[frame], [tagged(frame, 900)]])
 
+    def test_the_payload_after_options(self) -> None:
+        text = next(it for it in self.page.split("```") if "header rest { off:4" in it)
+        for words in range(4, 16):
+            head = lambda source: source.to_bytes(2, "big") + bytes(10) + bytes([words << 4]) + bytes(7 + max(0, 4 * words - 20))
+            frames = [eth(ipv4(6, head(source) + first)) for source in (22, 2222) for first in (b"SSH-", b"SSH", b"HTTP")]
+            self.assertEqual(sent(text, *frames)[0], [it for k, it in enumerate(frames) if k != 3 or words < 5])
+
     def test_the_first_program(self) -> None:
         program = (TOP / "examples/nat/nat.pkt").read_text()
         self.assertIn(f"```\n{program}```\n", self.page)

@@ -47,4 +47,5 @@ def unreached(text: str, seen: set[int]) -> list[str]:
     total = lines.total()
     said = ", ".join(f"{line} has {count}" for line, count in lines.most_common(5))
     return [f"no packet reaches {total} of {len(rows)} instructions: {said}",
-            "  help: what stands before these lines decides what they ask; they may ask less, or a `need` before them may ask it once", ""]
+            "  help: what stands before these lines decides what they ask; they may ask less, or a `need` before them may ask it once. "
+            "A header after options has tests that only the checker needs", ""]
