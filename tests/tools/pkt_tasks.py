@@ -2,7 +2,7 @@
 """Compiles programs of real tasks, runs them by tests/model, and compares what they send with what scapy says.
 
 Usage: tests/tools/pkt_tasks.py [NAME ..]   (needs scapy, and no program; without scapy it says so and passes)
-The frames are those of tests/program/tasks_by_scapy.py and each task's own, or those of tests/tools/edge_tasks.py and router_tasks.py: options, tags, fragments, padding, and
+The frames are those of tests/program/tasks_by_scapy.py and each task's own, or those of edge_tasks.py, router_tasks.py and service_tasks.py: options, tags, fragments, padding, and
 the same cut short. A reference knows nothing of the compiler: it takes frames apart and builds them, with scapy or byte by byte. The programs
 are in tests/pkt_tasks. Prints a line for each task; exits with 1 if one differs."""
 import ipaddress
@@ -28,6 +28,7 @@ except ImportError:
 
 import edge_tasks
 import router_tasks
+import service_tasks
 from model import programs, rules
 from model.machine import Env, Input, Pool, Port, Ring, World, run
 from tasks_by_scapy import inputs, ip_of, is_in, mended, reached, top_of
@@ -389,10 +390,10 @@ def sent(name: str, given: list[bytes]) -> list[list[Sent]]:
 
 def main() -> int:
     """Compares all tasks, or those that are named."""
-    tasks, failed = TASKS | edge_tasks.TASKS | router_tasks.TASKS, 0
-    own, edge, router = frames(), edge_tasks.frames(), router_tasks.frames()
+    groups = [(TASKS, frames()), *((it.TASKS, it.frames()) for it in (edge_tasks, router_tasks, service_tasks))]
+    tasks, failed = {name: task for group, _ in groups for name, task in group.items()}, 0
     for name in sys.argv[1:] or tasks:
-        given = own if name in TASKS else edge if name in edge_tasks.TASKS else router
+        given = next(own for group, own in groups if name in group)
         came = sent(name, given)
         wrong = [k for k, data in enumerate(given) if sorted(tasks[name](data)) != came[k]]
         changed = sum(1 for data, out in zip(given, came) for _, it in out if it != data)
