@@ -30,7 +30,7 @@ from pkt.graph import Graph, Instruction
 from pkt.lexer import words_of
 from pkt.parser import Parser
 from pkt.peephole import shorten
-from pkt.prove.command import unreached
+from pkt.prove.command import lacks, unreached
 from pkt.reach import BIGGEST, Value, leave_out, reached
 from pkt.state import SOMEBODY, SOMEBODY_THE_REST, Packet, State
 from pkt.syntax import Compare, Field, Number, SourceError
@@ -1600,6 +1600,12 @@ class Reached(unittest.TestCase):
             with self.subTest(one):
                 self.assertEqual(*(programs.assemble(compile_text(self.LENGTHS.replace("{}", it)).encode()) for it in (one, other)))
         self.assertNotIn(",16,", compile_text(self.LENGTHS.replace("{}", same[0][0])))
+
+    @unittest.skipIf(lacks(), "python3-z3 is not installed")
+    def test_several_values_of_the_shortest_length_are_proved(self) -> None:
+        from pkt.prove.decide import prove
+        source = self.LENGTHS.replace("{}", "(v >> 1) * 2 for v:8 in 2..7")
+        self.assertEqual(prove(source, compile_text(source), seconds=60).verdict, "proved")
 
     def test_lengths_of_some_bits(self) -> None:
         """Lengths that grow by different numbers, of bits without the last one or two."""
