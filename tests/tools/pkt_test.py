@@ -692,6 +692,33 @@ class Limits(unittest.TestCase):
                 self.assertLess(time.process_time() - begun, 10)
         self.assertEqual(sys.getrecursionlimit(), limit)
 
+    def test_long_sums_within_parentheses(self) -> None:
+        """200 operators in a row, within parentheses at the left end of 200 others, and so on."""
+        def nested(word: str, first: str, depth: int) -> str:
+            more = f" {word} {first}" * 200
+            for _ in range(depth):
+                first = f"({first}{more})"
+            return first
+
+        total = nested("+", "eth.type", 5)
+        for text in (
+            f"eth.src = {total}\nsend port",
+            f"let v = 1\nv -= {total}\nsend v",
+            f"if eth.src < {total} {{ drop }}\nsend port",
+            f"push eth {{ dst = ~{total} }}\nsend port",
+            f"header h {{ v:8 }} after eth if 1 length {nested('+', 'v', 39)} for v:8 in 1..3\nheader g {{ a:8 }} after h if 1\nif g {{ drop }}\nsend port",
+        ):
+            with self.subTest(text[:20]):
+                begun = time.process_time()
+                self.assertLessEqual(count(text), 1_024)
+                self.assertLess(time.process_time() - begun, 10)
+
+    def test_numbers_that_nobody_reads(self) -> None:
+        """They are left out at once, not one after another."""
+        begun = time.process_time()
+        self.assertLess(count(f"if {' + '.join(['eth.type'] * 180)} in {{1..5, 10.0.0.0/8}} {{ drop }}\nsend port"), 1_024)
+        self.assertLess(time.process_time() - begun, 3)
+
     def test_many_headers(self) -> None:
         """A header after many others, headers that are extended, and headers that may come one after another in many ways."""
         begin = "".join(f"header h{k} {{ a:8 }} after eth if eth.type == {k}\n" for k in range(400))

@@ -301,7 +301,7 @@ def leave_out(graph: Graph) -> bool:
     order = graph.order()
     if len(order) > MAX_INSTRUCTIONS:
         return False
-    found, bounds, read, changed = reached(graph), registers_bounded(order), registers_read(graph), False
+    found, bounds, read, changed = reached(graph), registers_bounded(order), registers_read(graph, is_strict=True), False
     for it in order:
         is_unread = it.word in WRITES and it.target is None and it.next is not None and it.operands[0] not in read[it.next]
         if it in found.states and not it.counter and (is_unread or turns(it, found, bounds)):

@@ -36,7 +36,8 @@ def fresh(way: Way) -> Value:
     free = sorted({*range(8)} - way.used())
     names = ", ".join(sorted(it for it in way.variables if not it.startswith("$")))
     if not free:
-        raise NoRegister(way.at, f"this needs a ninth number: {names} are held, and what is calculated here",
+        held = f"{names} are held, and" if names else "eight are held of"
+        raise NoRegister(way.at, f"this needs a ninth number: {held} what is calculated here",
                          "variables end with their block, and port where it is no more used; one holds two: let both = udp.sport << 16 | udp.dport")
     needed = {span_of(way, it) for it in way.unit.needs if isinstance(it, Field) and way.found.get(it.header) is not None}
     wanted = {r for it, r in way.loaded.items() if it in needed}
@@ -251,7 +252,23 @@ def shifted(way: Way, value: Value, span: Span, shift: int) -> Value:
 
 
 def evaluate(way: Way, it: Node) -> Value:
-    """A number; the headers of its fields were found."""
+    """A number; the headers of its fields were found. The operations at its left end are done one after another."""
+    chain = list[tuple[str, Node]]()
+    while isinstance(it, Binary) and not bits_of(way, it):
+        is_swapped = isinstance(it.left, Number) and it.sign in "+&|^*"
+        chain.append((it.sign, it.left if is_swapped else it.right))
+        it = it.right if is_swapped else it.left
+    value = operand(way, it)
+    for sign, right in reversed(chain):
+        if sign == "*" and isinstance(right, Number):
+            value = multiply(way, value, right.value)
+        else:
+            value = operate(way, own(way, value), sign, right)
+    return value
+
+
+def operand(way: Way, it: Node) -> Value:
+    """A number without operations that are calculated."""
     if span := bits_of(way, it):
         return load(way, span, it if isinstance(it, Field) else None)
     match it:
@@ -260,12 +277,6 @@ def evaluate(way: Way, it: Node) -> Value:
         case Name(_, name):
             way.pins[way.variables[name]] += 1
             return Value(register=way.variables[name])
-        case Binary(_, sign, left, right):
-            if isinstance(left, Number) and sign in "+&|^*":
-                left, right = right, left
-            if sign == "*" and isinstance(right, Number):
-                return multiply(way, evaluate(way, left), right.value)
-            return operate(way, own(way, evaluate(way, left)), sign, right)
     raise AssertionError(it)
 
 

@@ -81,7 +81,8 @@ class Checks(ParserState):
                 self.notes |= {} if frozenset((it.left, it.right)) in self.ordered else {it.at: UNDER.format("x > y + 5", "x - y > 5")}
             elif isinstance(other, Number) and isinstance(it, (Field, Name)):
                 self.limits[it] = max(other.value, self.limits.get(it, 0))
-        self.ordered.add(frozenset((left, right)))
+        if isinstance(left, (Field, Name)) and isinstance(right, (Field, Name)):
+            self.ordered.add(frozenset((left, right)))
 
     def note_group(self, it: Node) -> None:
         """Notes eth.dst & 1, which is not the bit of group addresses."""

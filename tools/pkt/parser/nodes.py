@@ -86,15 +86,26 @@ def combined(sign: str, left: Node, right: Node) -> Node:
 
 def added(sign: str, left: Node, right: Node) -> Node:
     """The operation of `left += right`. Each part of a sum on the right is taken in turn, so that none has to be held: x + (a - b) is x + a - b."""
-    inner = INNER.get(sign + right.sign) if isinstance(right, Binary) else None
-    return combined(inner, added(sign, left, right.left), right.right) if inner else combined(sign, left, right)
+    taken = list[tuple[str, Node]]()
+    while isinstance(right, Binary) and (inner := INNER.get(sign + right.sign)):
+        taken.append((inner, right.right))
+        right = right.left
+    found = combined(sign, left, right)
+    for inner, part in reversed(taken):
+        found = combined(inner, found, part)
+    return found
 
 
 def substituted(formula: Node, value: Node) -> Node:
     """A formula with a value in place of its variable."""
-    if isinstance(formula, Binary):
-        return combined(formula.sign, substituted(formula.left, value), substituted(formula.right, value))
-    return value if isinstance(formula, Name) else formula
+    chain = list[Binary]()
+    while isinstance(formula, Binary):
+        chain.append(formula)
+        formula = formula.left
+    found = value if isinstance(formula, Name) else formula
+    for it in reversed(chain):
+        found = combined(it.sign, found, substituted(it.right, value))
+    return found
 
 
 def constant_of(node: Node, cure: str = "") -> int:
