@@ -47,9 +47,9 @@ def write(graph: Graph, rows: list[Row]) -> str:
     line = max(sorted({*used} - {0}), key=used.count, default=0)
     require(len(used) <= MAX_INSTRUCTIONS, Place(line, 1, ""),
             f"the program has {len(used)} instructions, and {MAX_INSTRUCTIONS:,} are possible; this line takes {used.count(line)}",
-            "`need ipv4.vhl == 0x45` before it where packets with options may be dropped, and `need ipv4` where IPv6 may; no `if qinq {}` and "
-            "`if vlan {}` where no such tags come; find out once, and use variables; a header that is looked for before the first rule is found "
-            "for all of them")
+            "`need ipv4.vhl == 0x45` before it where packets with options may be dropped, or one length of another header that has many; `need ipv4` "
+            "where IPv6 may be dropped; no `if qinq {}` and `if vlan {}` where no such tags come; find out once, and use variables; a header that "
+            "is looked for before the first rule is found for all of them")
     return "\n".join(shown) + "\n"
 
 
