@@ -265,15 +265,20 @@ def fold(way: Way, total: Value, keeps: bool = False) -> None:
     registers.release(way, high)
 
 
+def automatic(header: Header, named: dict[str, Node | None]) -> list[str]:
+    """The fields of a pushed header that get its checksum. Named fields come after what is by default."""
+    values, taken = header.defaults | named, [header.fields[name] for name in named]
+    found = [name for name in header.fields if values.get(name, 0) is None]
+    return [name for name in found if name in named or not any(header.fields[name].meets(span) for span in taken)]
+
+
 def sums_of(way: Way, pushed: tuple[Pushed, ...], data: bytes, others: Others) -> Others:
-    """The checksums of pushed headers that are `auto`, given their constant bytes and the other fields. Named fields come after what is by default."""
+    """The checksums of pushed headers that are `auto`, given their constant bytes and the other fields."""
     found, at = Others(), 0
     for it in pushed:
-        header, named = way.headers[it.header], dict(it.values)
-        values, taken = header.defaults | named, [header.fields[name] for name in named]
-        for name, own in header.fields.items():
-            if values.get(name, 0) is None and (name in named or not any(own.meets(span) for span in taken)):
-                found.append((own.moved(at), sum_of(way, header, at, data, others)))
+        header = way.headers[it.header]
+        names = automatic(header, dict(it.values))
+        found += [(header.fields[name].moved(at), sum_of(way, header, at, data, others)) for name in names]
         at += header.size
     return found
 

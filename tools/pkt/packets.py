@@ -223,7 +223,7 @@ def push_tag(way: Way, pushed: Pushed, before: str) -> None:
 def sums_of_tag(way: Way, pushed: Pushed, data: bytes, others: Others, kind: Span) -> Others:
     """The checksum of an inserted tag that is `auto`, given where the packet has what its `next` field gets."""
     tag = way.headers[pushed.header]
-    if None not in (tag.defaults | dict(pushed.values)).values():
+    if not checksums.automatic(tag, dict(pushed.values)):
         return []
     kept = registers.load(way, kind)
     found = checksums.sums_of(way, (pushed,), data, [*others, (tag.fields[tag.next], kept)])
