@@ -1331,6 +1331,8 @@ if options6 {}
             with self.subTest(source):
                 tag = struct.pack(">HHH", a, checksum(struct.pack(">HH", a, 0x0806)), 0x0806)
                 self.both(f"{summed}{source}\nsend port", [eth(b"rest", 0x0806)], [eth(tag + b"rest", 0x88B5)])
+        self.both("header tag { type:16 = auto } after eth if eth.type == 0x88b5 next type\npush tag { }\nsend port", [eth(b"rest", 0x0806)],
+                  [eth(b"\x08\6rest", 0x88B5)])
         self.both("header tag { a:16 type:16 } next type\npush tag { a = 5 type = 6 }\nsend port", [eth(b"rest")], [b"\0\5\0\6" + eth(b"rest")])
 
     def test_values_that_push_writes_by_default(self) -> None:

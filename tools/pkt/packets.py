@@ -223,10 +223,11 @@ def push_tag(way: Way, pushed: Pushed, before: str) -> None:
 def sums_of_tag(way: Way, pushed: Pushed, data: bytes, others: Others, kind: Span) -> Others:
     """The checksum of an inserted tag that is `auto`, given where the packet has what its `next` field gets."""
     tag = way.headers[pushed.header]
-    if not checksums.automatic(tag, dict(pushed.values)):
+    whole = replace(pushed, values=(*pushed.values, (tag.next, Number(pushed.at, 0))))
+    if not checksums.automatic(tag, dict(whole.values)):
         return []
     kept = registers.load(way, kind)
-    found = checksums.sums_of(way, (pushed,), data, [*others, (tag.fields[tag.next], kept)])
+    found = checksums.sums_of(way, (whole,), data, [*others, (tag.fields[tag.next], kept)])
     registers.release(way, kept)
     return found
 
