@@ -5,8 +5,8 @@ there are; the links of pages; and the syntax files.
 Usage: tests/texts.py   (some 12 seconds)
 Prints a line for each file that `rt fmt` would change, for each line of more than 160 columns, and for each edit whose old text does not
 occur exactly once, for each lemma that a tactic is to use from a module that is not there, for each page with the marks of a merge, for
-each link of a page to a file or a heading that is not there, for each name of a page or a script that is not there, and for each word of a
-language that its syntax files lack; exits with 1 if there is one."""
+each link of a page to a file or a heading that is not there, for each name of a page or a script that is not there, for each word of a
+language that its syntax files lack, and if the table of the gate's scripts is another; exits with 1 if there is one."""
 import collections
 import concurrent.futures
 import functools
@@ -118,6 +118,13 @@ def unlisted_words() -> list[str]:
     return [f"{file.relative_to(TOP)}: the word {word} is missing" for file, word in found]
 
 
+def other_table() -> list[str]:
+    """The page on the gate, if it does not have the table of scripts as they are."""
+    table = subprocess.run([sys.executable, TOP / "tests/run.py", "--list"], check=True, capture_output=True, text=True).stdout
+    page = TOP / "docs/developing/testing.md"
+    return [] if table in page.read_text() else [f"{page.relative_to(TOP)} has another table than tests/run.py --list"]
+
+
 def main() -> int:
     with tempfile.TemporaryDirectory(prefix="texts-") as room:
         shutil.copy(TOP / "crates.txt", room)
@@ -128,7 +135,7 @@ def main() -> int:
     wide = [line for crate in CRATES for line in too_wide(crate)]
     for line in wide:
         print(f"{line}: more than {WIDTH} columns")
-    other = [line for crate in CRATES for line in missing_lemmas(crate)] + merged_pages() + dead_names() + unlisted_words()
+    other = [line for crate in CRATES for line in missing_lemmas(crate)] + merged_pages() + dead_names() + unlisted_words() + other_table()
     other += [line for page in pages() for line in broken_links(page)]
     for line in other:
         print(line)
