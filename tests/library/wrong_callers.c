@@ -139,6 +139,17 @@ static void call_without_memory(const uint8_t *text, size_t text_length, const u
     dpv_free(engine);
 }
 
+/* A pipeline whose first file is not packed: the cause is the file's, and not lack of memory. */
+static void call_without_files(const uint8_t *text, size_t text_length, const uint8_t *packed)
+{
+    struct dpv_reason reason;
+    memset(&reason, 0xa5, sizeof reason);
+    expect(dpv_open(text, text_length, packed, 0, &reason) != NULL, 0, "an engine without files");
+    expect(reason.cause, 15, "the cause without files");
+    expect(reason.length, 13, "the length of its text");
+    expect((uint32_t)(memcmp(reason.text, "5 File port 0\0", 15) != 0), 0, "its text");
+}
+
 /* Calls on an engine whose pipeline was not loaded. */
 static void call_unopened(void)
 {
@@ -209,6 +220,7 @@ int main(int argc, char **argv)
         dpv_free(engine);
     }
     call_without_memory(text, text_length, packed, packed_length);
+    call_without_files(text, text_length, packed);
     call_unopened();
     /* Files that are cut at each byte: none of them opens, and each says why. */
     for (size_t cut = 0; cut < packed_length; cut++) {
