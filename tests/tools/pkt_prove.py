@@ -41,7 +41,7 @@ class Planted(NamedTuple):
     program: str
 
 
-MINUS = "begin -= last.fields[last.next].bits // 8"
+MINUS = "begin -= kept"
 LESS = "if not max(registers.bound_of(way, a), registers.bound_of(way, b)) >> 63:"
 PLANTED = (
     Planted("packets.py", MINUS, "begin -= 0", "pop of a tag: the type goes to a wrong offset", "examples/vlan_pop/vlan_pop.pkt"),
