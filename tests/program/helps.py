@@ -52,6 +52,7 @@ PROGRAMS: list[tuple[bytes, int, int, str, str]] = [
     (b"exit\njmp agan\nagain: exit\n", 2, 8, UNKNOWN, "no line defines the label 'agan'; did you mean 'again'?"),
     (b"jmp zzzzzz\nexit\n", 1, 8, UNKNOWN, "no line defines the label 'zzzzzz'"),
     (b"jmp a\na:\n", 1, 8, UNKNOWN, "no instruction follows the label 'a' of line 2"),
+    (b"# " + 1_000_000 * b"x" + b"\nexit\nqqqqqqqq\n", 3, 2, NAME, "there is no instruction 'qqqqqqqq'"),
     (1025 * b"exit\n", 1025, 9, "there is no instruction, or there are more than 1024", "a program has 1 to 1024 instructions"),
 ]
 # Words of other languages, and the instruction that does it.
