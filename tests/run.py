@@ -70,7 +70,7 @@ ON_PROGRAM = (PROGRAM,)
 STEPS = (
     Step("texts", "tests/texts.py", "in some 12 seconds, what needs no proof: the layout of code, definitions and proofs, that each wrong body can be made, and that each link of a page leads somewhere"),
     Step("texts", "tests/proofs/believed.py", "that docs/proofs/definitions.md has the right count of definitions for each promise"),
-    Step("proofs", "rt ci", "every proof (release 13f of the toolchain does not prove a crate again that passed on this machine with the same dependencies; 13b does), that the prover refuses the wrong bodies under `crates/*/must-fail`, every test, and the program as two compilers build it"),
+    Step("proofs", "rt ci", "every proof, from nothing (the toolchain's release 13b keeps none from an earlier run), that the prover refuses the wrong bodies under `crates/*/must-fail`, every test, and the program as two compilers build it"),
     Step("bodies", "tests/planted.py", "that the prover refuses wrong bodies (edits that make a function wrong; see below) under `crates/*/planted`: all of `planted/always`, and of the others those whose turn it is and those of changed functions, at most 68", ("--gate", "--jobs", str(max(2, PROCESSORS - 1))), seconds=300),
     Step("program", "tests/program/examples.py", "that each example writes the expected captures, to the byte, with its node programs and with those that `dpv build` makes from its .pkt files", ON_PROGRAM),
     Step("program", "tests/program/refusals.py", "that each program of examples/refused is explained as in docs/users/refusals.md, and its cure accepted", ON_PROGRAM),
