@@ -434,6 +434,16 @@ def traces(program: str, folder: pathlib.Path) -> list[bool]:
     return passed
 
 
+def is_fault_of_a_run(program: str, folder: pathlib.Path) -> bool:
+    """Whether a run, which reads programs by another function than infer-one, reports the fault of a long program, and not lack of memory."""
+    (folder / "long.dpv").write_bytes(b"# " + 1_000_000 * b"x" + b"\nexit\nqqqqqqqq\n")
+    ran = subprocess.run([program, "filter", "long.dpv", "in.pcap", "out.pcap"], cwd=folder, capture_output=True, text=True, check=False)
+    passed = ran.returncode == 3 and ran.stderr.startswith("fault: pipeline 6 Asm port 0 line 3 cause 2\n")
+    if not passed:
+        print(f"helps: filter of a long program: status {ran.returncode}: {ran.stderr[:100]}")
+    return passed
+
+
 def main() -> int:
     """All of it."""
     program = asked()
@@ -442,6 +452,7 @@ def main() -> int:
         passed += [is_said(program, folder, ["check", "it.toml"], *case) for case in pipelines()]
         passed += runs(program, folder) + traces(program, folder)
         passed.append(is_counted(program, folder))
+        passed.append(is_fault_of_a_run(program, folder))
     return report_cases("helps", passed)
 
 
