@@ -1,15 +1,17 @@
 #!/usr/bin/env python3
 """Tests the C library of dpv: wrong calls, random pipelines and frames, and the hosts of examples/live.
 
-Usage: tests/library/host.py [--seed N] [--cases N | --seconds N] [--jobs N] [--library FOLDER | --gate]
-FOLDER has libdpv.a and dpv.h, as `./dpv library FOLDER` installs them; by default they are built into a new folder. With --gate the library
-is built over the crates as `rt ci` left them, which proves its own crate once more. tests/library/wrong_callers.c runs under the C compiler's
-sanitizers, and under valgrind if installed: each call returns what dpv.h says and changes nothing, packed files that are cut at each byte
-open no engine, and all memory is freed; also where malloc refuses memory, and for an engine whose pipeline was not loaded. bench/live/threads.c runs four engines on four threads, with ThreadSanitizer and under valgrind's
-helgrind: they share nothing, and do the same. The hosts have to compile without a warning, tests/library/sockets.py runs af_packet.c, and if DPDK is installed, dpdk.c over its net_pcap has
-to send for each example the records expected of `dpv run`. Then, for random pipelines, frames in any order of ports, bursts, changes of routes
-and look-ups, all that the library returns and all its counts are compared with tests/model. Prints a line for each finding, and a count; exits with 1 if there is a
-finding.
+Usage: tests/library/host.py [--seed N] [--cases N | --seconds N] [--jobs N] [--all] [--library FOLDER | --gate]
+FOLDER has libdpv.a and dpv.h, as `./dpv library FOLDER` installs them; by default they are built into a new folder. With --gate the library is
+built over the crates as `rt ci` left them, which proves its own crate once more. tests/library/wrong_callers.c runs under the C compiler's
+sanitizers, and under valgrind if installed: each call returns what dpv.h says and changes nothing, packed files that are cut at each byte open
+no engine, and all memory is freed; also where malloc refuses memory, and for an engine whose pipeline was not loaded. Each byte of two
+certificates is set to each digit and some other values, with --all to each value: each text is refused, or the program does what it did.
+bench/live/threads.c runs four engines on four threads, with ThreadSanitizer and under valgrind's helgrind: they share nothing, and do the same.
+The hosts have to compile without a warning, tests/library/sockets.py runs af_packet.c, and if DPDK is installed, dpdk.c over its net_pcap has to
+send for each example the records expected of `dpv run`. tests/library/routes.py has known calls on tables of routes. Then passes are compared with what was worked out by hand, and, for random pipelines,
+frames in any order of ports, bursts, changes of routes and look-ups, all that the library returns and all its counts are compared with
+tests/model. Prints a line for each finding, and a count; exits with 1 if there is a finding.
 """
 import argparse
 import concurrent.futures
@@ -31,13 +33,17 @@ from random import Random
 from typing import Any, BinaryIO, NamedTuple
 
 import paths  # noqa: F401
+import engines
+import routes
 import sockets
+import verdicts
 
 from cases.pipelines import pipeline_files
 from command import TOP
 from model import captures, costs, machine, pipelines, programs
 from over_gate import build
 from planted import CRATES
+from worlds import World, put, toml_of
 
 HERE = pathlib.Path(__file__).resolve().parent
 CROSS = TOP / "examples/live"
@@ -92,6 +98,24 @@ def wrong_callers(library: pathlib.Path, folder: pathlib.Path) -> int:
 # What C and C++ programs may ask a compiler to warn of, and the languages.
 STRICT = ["-Wall", "-Wextra", "-Wconversion", "-Wsign-conversion", "-Wshadow", "-Wcast-qual", "-Wundef", "-pedantic", "-Werror"]
 LANGUAGES = {"c99": ("cc", "gcc", "clang"), "c11": ("cc", "gcc", "clang"), "c++98": ("c++", "g++", "clang++"), "c++17": ("c++", "g++", "clang++")}
+
+
+# Programs with their certificates, one of each version.
+WITH_CERTS = ((verdicts.STRIP, verdicts.STRIPPED), (verdicts.RESOLE, verdicts.RESOLED))
+
+
+def each_cert(library: pathlib.Path, folder: pathlib.Path) -> int:
+    """How many certificates there are of which some byte, set to another value, does harm."""
+    program, home, bad = folder / "each_cert", folder / "certs", 0
+    compile_one("each_cert.c", library, program)
+    home.mkdir()
+    for text, cert in WITH_CERTS:
+        put(home, engines.SMALL, (text,), {0: cert})
+        words = ["it.toml", "n0.dpv", "n0.cert", *["all"] * ("--all" in sys.argv)]
+        run = subprocess.run([str(program), *words], cwd=home, capture_output=True, text=True, timeout=600)
+        bad += run.returncode != 0
+        print(f"host: each byte of a certificate, status {run.returncode}, {run.stdout[-1000:].strip()} {run.stderr[-1000:]}")
+    return bad
 
 
 def strict(library: pathlib.Path, folder: pathlib.Path) -> int:
@@ -372,26 +396,32 @@ ROOM = 4
 class Case:
     """A pipeline, its files, and what is done with its engine: frames at ports, bursts of them, changes of routes, and look-ups."""
 
-    def __init__(self, rng: Random) -> None:
-        has_tables = rng.random() < 0.05
-        self.files = pipeline_files(rng, rng.random() < 0.85, has_tables).files
+    def __init__(self, files: dict[str, bytes], steps: list[Step]) -> None:
+        self.files, self.steps = files, steps
         self.text = self.files["it.toml"]
         names = [name for name in sorted(self.files) if name != "it.toml"]
         self.named = [self.files[name] for name in names]
         self.packed = b"".join(
             struct.pack("<II", len(name.encode()), len(self.files[name])) + name.encode() + self.files[name] for name in names
         )
-        share, number = 0.5 if has_tables else 0.02, rng.choice((0, 1, 5, 20, 60))
-        self.steps = [self.step(rng, share) for _ in range(number)]
 
-    def step(self, rng: Random, share: float) -> Step:
+    @classmethod
+    def at_random(cls, rng: Random) -> "Case":
+        """A random case."""
+        has_tables = rng.random() < 0.05
+        files = pipeline_files(rng, rng.random() < 0.85, has_tables).files
+        share, number = 0.5 if has_tables else 0.02, rng.choice((0, 1, 5, 20, 60))
+        return cls(files, [cls.step(rng, share) for _ in range(number)])
+
+    @classmethod
+    def step(cls, rng: Random, share: float) -> Step:
         """A change or a look-up of a route, a burst, or a frame."""
         if rng.random() < share:
-            return self.change(rng)
-        frame = self.frame(rng)
+            return cls.change(rng)
+        frame = cls.frame(rng)
         if rng.random() < 0.9:
             return frame
-        return Burst(frame.port, [frame.data, *(self.frame(rng).data for _ in range(rng.choice((0, 1, 2, 3, 3, 20, 63))))])
+        return Burst(frame.port, [frame.data, *(cls.frame(rng).data for _ in range(rng.choice((0, 1, 2, 3, 3, 20, 63))))])
 
     @staticmethod
     def change(rng: Random) -> Change:
@@ -459,7 +489,9 @@ def differs(case: Case, stream: BinaryIO) -> str | None:
     if pipeline is None:
         return None
     env = pipeline.env._replace(tables=[dict(known) for known in pipeline.env.tables])
-    world = machine.World(env, pipeline.programs)
+    size, world = size_of(stream), machine.World(env, pipeline.programs)
+    if size != batch_of(world):
+        return f"a batch of {size} and not {batch_of(world)}"
     for k, step in enumerate(case.steps):
         came: Any
         if isinstance(step, Change):
@@ -541,10 +573,20 @@ def passed(stream: BinaryIO) -> tuple[int, list[tuple[int, bytes]]]:
     return number(stream, 4), [(number(stream, 4), stream.read(number(stream, 4))) for _ in range(number(stream, 8))]
 
 
+def size_of(stream: BinaryIO) -> tuple[int, int]:
+    """The records and bytes of a batch, as the driver wrote them."""
+    return number(stream, 8), number(stream, 8)
+
+
+def batch_of(world: machine.World) -> tuple[int, int]:
+    """The records and bytes that a batch needs: no pass sends more packets, or more bytes, than there are buffers."""
+    count = sum(pool.count for pool in world.env.pools)
+    return count, count * max(pool.room for pool in world.env.pools)
+
+
 def burst_in(world: machine.World, step: Burst) -> list[tuple[int, list[tuple[int, bytes]]]]:
     """The answers and the records of a burst: those of its frames in turn, as long as the batch has room for a pass."""
-    count = sum(pool.count for pool in world.env.pools)
-    size, records, filled = count * max(pool.room for pool in world.env.pools), 0, 0
+    (count, size), records, filled = batch_of(world), 0, 0
     came = []
     for data in step.frames:
         has_room = records + count <= ROOM * count and filled + size <= ROOM * size
@@ -616,7 +658,7 @@ def play(program: pathlib.Path, seed: str, numbers: range, until: float) -> Play
         for number in numbers:
             if time.monotonic() > until:
                 break
-            case = Case(Random(f"{seed} {number}"))
+            case = Case.at_random(Random(f"{seed} {number}"))
             wrong = played_through(drive, case)
             done, steps = done + 1, steps + len(case.steps)
             if wrong:
@@ -629,10 +671,50 @@ def play(program: pathlib.Path, seed: str, numbers: range, until: float) -> Play
     return Played(done, steps, f"the driver ended with {ended}" if ended else None)
 
 
+class ByHand(NamedTuple):
+    """A pipeline with its programs, how many records and bytes a batch needs, frames with what the library sends for each, and all numbers at the end:
+    received, dropped twice and sent of each port, free buffers and buffers of each pool, and turns, calls, cuts and pools."""
+
+    world: World
+    nodes: tuple[str, ...]
+    size: tuple[int, int]
+    frames: tuple[tuple[Frame, list[tuple[int, bytes]]], ...]
+    numbers: tuple[int, ...]
+
+
+BY_HAND = (
+    # a pass hands out what all ports send: a record in two segments out of both ports, then one that is sent back
+    ByHand(
+        engines.DOUBLED, (engines.TO_BOTH, engines.FORWARD), (6, 1152),
+        ((Frame(0, engines.HUNDRED), [(0, engines.HUNDRED), (1, engines.HUNDRED)]), (Frame(1, engines.NINES), [(1, engines.NINES)])),
+        (1, 0, 0, 1, 1, 0, 0, 2, 6, 6, 2, 3, 0, 1),
+    ),
+)
+
+
+def by_hand(program: pathlib.Path) -> int:
+    """How many cases that were worked out by hand end otherwise."""
+    bad = 0
+    for row in BY_HAND:
+        files = {"it.toml": toml_of(row.world).encode()} | {f"n{k}.dpv": text.encode() for k, text in enumerate(row.nodes)}
+        case = Case(files, [frame for frame, _ in row.frames])
+        wanted = b"".join(struct.pack("<IIII", *cost_of(it)) for it in case.named) + struct.pack("<IIQQ", 0, 0, *row.size)
+        for _, sent in row.frames:
+            wanted += struct.pack("<IQ", 0, len(sent)) + b"".join(struct.pack("<II", port, len(record)) + record for port, record in sent)
+        wanted += struct.pack(f"<{len(row.numbers)}Q", *row.numbers)
+        came = subprocess.run([str(program)], input=case.spelled(), capture_output=True, timeout=60).stdout
+        if came != wanted:
+            bad += 1
+            print(f"host: by hand, {row.nodes[0]!r}: {came!r} and not {wanted!r}")
+    print(f"host: {len(BY_HAND)} pipelines by hand, {bad} findings")
+    return bad
+
+
 def at_random(asked: Any, library: pathlib.Path, folder: pathlib.Path) -> int:
-    """How many drivers found something in random cases: there are as many drivers as jobs, which play the cases in turn."""
+    """How many cases that were worked out by hand, and how many drivers, found something: there are as many drivers as jobs, which play random cases."""
     program, jobs = folder / "drive", asked.jobs
     compile_one("host_drive.c", library, program, "-fsanitize=undefined", "-fno-sanitize-recover=all")
+    findings_by_hand = by_hand(program)
     until = time.monotonic() + asked.seconds if asked.seconds else math.inf
     with concurrent.futures.ProcessPoolExecutor(jobs) as pool:
         waiting = [pool.submit(play, program, asked.seed, range(lane, asked.cases, jobs), until) for lane in range(jobs)]
@@ -642,7 +724,7 @@ def at_random(asked: Any, library: pathlib.Path, folder: pathlib.Path) -> int:
         print(f"host: {finding}")
     cases, steps = sum(it.cases for it in all_played), sum(it.steps for it in all_played)
     print(f"host: seed {asked.seed}, {cases} pipelines, {steps} frames, bursts and changes, {len(findings)} findings")
-    return len(findings)
+    return findings_by_hand + len(findings)
 
 
 def wrong_headers(asked: Any, library: pathlib.Path, folder: pathlib.Path) -> int:
@@ -670,6 +752,7 @@ def main() -> int:
     parser.add_argument("--jobs", type=int, default=len(os.sched_getaffinity(0)))
     parser.add_argument("--library", type=pathlib.Path)
     parser.add_argument("--gate", action="store_true")
+    parser.add_argument("--all", action="store_true", help="each byte of two certificates to each value")
     asked = parser.parse_args()
     asked.cases = asked.cases or (sys.maxsize if asked.seconds else 1000)
     if not shutil.which("cc"):
@@ -682,8 +765,8 @@ def main() -> int:
             library = folder / "library"
             put_library(library, asked.gate)
         library = library.resolve()
-        findings = wrong_callers(library, folder) + strict(library, folder) + commands(library, folder) + threads(library, folder) + lasting(library, folder) + hosts(library, folder)
-        findings += at_random(asked, library, folder) + wrong_headers(asked, library, folder)
+        findings = sum(it(library, folder) for it in (wrong_callers, each_cert, strict, commands, threads, lasting, hosts))
+        findings += at_random(asked, library, folder) + routes.findings(folder / "drive") + wrong_headers(asked, library, folder)
     return 1 if findings else 0
 
 

@@ -4,8 +4,8 @@
    bytes of each, the number of steps, and the steps. A step is a frame: 0, its
    port, length and bytes; or an added (1), deleted (2) or looked up (3) route: its table, address, depth and hop; or a burst of frames: 4, the
    port, their number, and the length and bytes of each.
-   What is written: for each of these files the answer and the three numbers of its cost; the cause; where that is 0 for each frame the answer and the records, for each route the answer and the hop of a look-up,
-   and at last all numbers. Each struct that the
+   What is written: for each of these files the answer and the three numbers of its cost; the cause; where that is 0 the size that a batch needs,
+   for each frame the answer and the records, for each route the answer and the hop of a look-up, and at last all numbers. Each struct that the
    library fills lies between bytes that have to stay as they are. All numbers have 32 bits, or 64 where the header has so, little-endian. */
 #include "dpv.h"
 #include <stdio.h>
@@ -159,6 +159,18 @@ static void do_step(dpv_t *engine, struct dpv_batch *batch)
         free(bytes_in(&length));
 }
 
+/* Writes the size that a batch needs. */
+static void put_size(dpv_t *engine)
+{
+    GUARDED(dpv_batch_size) size;
+    memset(&size, GUARD, sizeof size);
+    if (dpv_batch_size(engine, &size.it) != DPV_OK)
+        exit(8);
+    put64(size.it.records);
+    put64(size.it.bytes);
+    check_guard(size.after, "dpv_batch_size");
+}
+
 static void put_numbers(dpv_t *engine)
 {
     GUARDED(dpv_port_stats) port;
@@ -216,6 +228,8 @@ static int play(void)
     fwrite(reason.it.text, 1, reason.it.length, stdout);
     if (engine != NULL && dpv_burst_open(engine, &batch, 4) != DPV_OK)
         exit(6);
+    if (engine != NULL)
+        put_size(engine);
     for (uint32_t k = 0; k < steps; k++)
         do_step(engine, &batch);
     if (engine != NULL) {

@@ -152,6 +152,79 @@ def bad_envs() -> Iterator[Case]:
         yield fault("3 BadEnv 5 0", changed("pool", place, count=65_536 - 7 * 4))
 
 
+# Pools (their buffers, cache and room), rings (their places, share and segments) and ports (their pool, segments and list) within the limits, at a
+# limit, and not within them.
+P, MANY, FEW, LEAST, NEXT, NO_POOL = (1, 0, 2176), (65_535, 0, 0), (64, 0, 2176), (1, 0, 129), (1, 0, 128), (0, 0, 0)
+R, FULL, NO_RING = (2, 0, 1), (2, 0, 64), (3, 0, 1)
+O, WIDE, NO_PORT = (0, 1, 2), (0, 64, 65_536), (9, 0, 0)
+BIGGEST = 4_294_967_295
+Part = tuple[int, int, int]
+
+
+class Environment(NamedTuple):
+    """The pools, the number of tables, the rings and the ports of an environment, and the cause for which it is refused with the place, if it is."""
+
+    pools: list[Part]
+    tables: int
+    rings: list[Part]
+    ports: list[Part]
+    cause: str | None
+
+
+ENVIRONMENTS = [
+    # The numbers of parts.
+    Environment([], 0, [], [O], "1 0"),
+    Environment(9 * [P], 0, [], [O], "1 0"),
+    Environment([P], 5, [], [O], "1 0"),
+    Environment([P], 0, 9 * [R], [O], "1 0"),
+    Environment([P], 0, [], [], "1 0"),
+    Environment([P], 0, [], 9 * [O], "1 0"),
+    Environment([P], 0, [], [O], None),
+    Environment(8 * [P], 4, 8 * [R], 8 * [O], None),
+    # The limits of pools.
+    *(Environment([FEW, pool], 0, [], [O], cause) for pool, cause in [
+        ((0, 0, 0), "2 1"), ((1, 0, 0), None), ((65_535, 0, 0), "5 0"), ((65_536, 0, 0), "2 1"), ((6, 4, 0), None), ((5, 4, 0), "2 1"), ((768, 512, 0), None),
+        ((1000, 513, 0), "2 1"), ((1, 0, 4096), None), ((1, 0, 4097), "2 1"), ((BIGGEST, BIGGEST, BIGGEST), "2 1"),
+    ]),
+    # The limits of rings.
+    *(Environment([LEAST], 0, [FULL, ring], [O], cause) for ring, cause in [
+        ((0, 0, 1), "3 1"), ((1, 0, 1), "3 1"), ((2, 2, 1), None), ((3, 0, 1), "3 1"), ((6, 0, 1), "3 1"), ((65_536, 0, 1), None), ((131_072, 0, 1), "3 1"),
+        ((2, 3, 1), "3 1"), ((2, 0, 0), "3 1"), ((2, 0, 65), "3 1"), ((2, 0, 64), None),
+    ]),
+    # The limits of ports.
+    *(Environment([LEAST, NEXT], 0, [], [WIDE, port], cause) for port, cause in [
+        ((0, 1, 2), None), ((1, 1, 2), "4 1"), ((2, 1, 2), "4 1"), ((BIGGEST, 1, 2), "4 1"), ((0, 0, 2), "4 1"), ((0, 65, 2), "4 1"), ((0, 1, 1), "4 1"),
+        ((0, 1, 3), "4 1"), ((0, 1, 131_072), "4 1"),
+    ]),
+    # The first cause counts, at its first place: the numbers of parts, pools, rings, ports, and the sum of all buffers.
+    Environment([NO_POOL], 9, [NO_RING], [NO_PORT], "1 0"),
+    Environment([P, NO_POOL, NO_POOL], 0, [NO_RING], [NO_PORT], "2 1"),
+    Environment([P, MANY], 0, [R, R, NO_RING, NO_RING], [NO_PORT], "3 2"),
+    Environment([P, MANY], 0, [R], [O, O, O, NO_PORT], "4 3"),
+    Environment([P, MANY], 0, [R], [O], "5 0"),
+    Environment([P, (65_534, 0, 0)], 0, [R], [O], None),
+]
+
+
+def environment(row: Environment) -> dict[str, Any]:
+    """The pipeline with these parts, each of whose nodes frees its packets."""
+    pools = [dict(zip(("count", "cache", "room"), it)) for it in row.pools]
+    rings = [{"count": count, **FACT, "share": share, "head": 0, "segs": segs, "node": "free"} for count, share, segs in row.rings]
+    ports = [{**dict(zip(("pool", "segs", "queue"), it)), "node": "free", "in": "none", "out": "none"} for it in row.ports]
+    return {"region": 65_536, "pool": pools, "table": row.tables * [{"rules": 1, "groups": 0, "routes": []}], "ring": rings, "port": ports}
+
+
+def environments() -> Iterator[Case]:
+    """Environments at each limit and past it, those that are refused with the first cause."""
+    for row in ENVIRONMENTS:
+        top, free = environment(row), b"free p0\nexit\n"
+        if row.cause is None:
+            nodes = [f"{kind} {k}" for kind, parts in (("port", row.ports), ("ring", row.rings)) for k in range(len(parts))]
+            yield Case("none", top, {"free": free}, 0, "".join(f"{node} accepted\n" for node in nodes), "")
+        else:
+            yield fault(f"3 BadEnv {row.cause}", top, free=free)
+
+
 def bad_tables() -> Iterator[Case]:
     """Routes that a table refuses, at each place."""
     routes = {"10.1.0.0/0 1": 1, "10.1.0.0/33 1": 1, "10.1.0.0/99 1": 1, "10.1.0.0/16 16777216": 2, "10.1.0.0/16 99999999": 2}
@@ -334,7 +407,7 @@ def ends_so(program: str, folder: pathlib.Path, case: Case) -> bool:
     return passed
 
 
-CASES = (sound, no_toml, newer_toml, bad_keys, bad_envs, bad_tables, bad_files, refusals)
+CASES = (sound, no_toml, newer_toml, bad_keys, bad_envs, environments, bad_tables, bad_files, refusals)
 
 
 def main() -> int:

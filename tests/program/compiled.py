@@ -139,7 +139,7 @@ class Compiling:
     def __init__(self, program: str, folder: pathlib.Path) -> None:
         self.program, self.folder, self.script = program, folder, folder / "dpv"
         writer = TOP / "tools/compiled_nodes.py"
-        self.script.write_text(f'#!/bin/sh\nset -eu\nprogram="{program}" compiled_nodes="{writer}" version= commit=\n. "{TOP}/tools/launch"\nlaunch "$@"\n')
+        self.script.write_text(f'#!/bin/sh\nset -eu\nprogram="{program}" compiled_nodes="{writer}" views="{TOP}/tools/views" version= commit=\n. "{TOP}/tools/launch"\nlaunch "$@"\n')
         self.script.chmod(0o755)
 
     def run(self, *words: str, cwd: pathlib.Path | None = None) -> tuple[int, str, str]:

@@ -70,7 +70,7 @@ def cure_named(program: str, source: pathlib.Path) -> list[str] | None:
     """The command of editcap that dpv names for a capture."""
     words = [program, "one", str(command.STRIP / "strip.dpv"), str(command.STRIP / "strip.cert"), source.name, "refused.pcap"]
     ran = subprocess.run(words, cwd=source.parent, capture_output=True, text=True, check=False)
-    named = re.search(r"editcap [^;\n]*? IN OUT", ran.stderr)
+    named = re.search(r"editcap [^;\n]*? IN OUT", command.said("", ran.stderr)[1])
     return shlex.split(named[0]) if ran.returncode == 3 and named else None
 
 
@@ -119,7 +119,7 @@ def is_unpacked(program: str, folder: pathlib.Path, tool: str) -> bool:
         subprocess.run([tool, "-c", whole.name], cwd=folder, stdout=into, stderr=subprocess.DEVNULL, check=True)
     words = [program, "one", str(command.STRIP / "strip.dpv"), str(command.STRIP / "strip.cert"), packed.name, "refused.pcap"]
     ran = subprocess.run(words, cwd=folder, capture_output=True, text=True, check=False)
-    named = re.search(rf"it is compressed by {tool}; (\S+ -dc IN > OUT) unpacks it\n", ran.stderr)
+    named = re.search(rf"it is compressed by {tool}; (\S+ -dc IN > OUT) unpacks it\n", command.said("", ran.stderr)[1])
     if ran.returncode != 3 or named is None:
         return False
     shell = named[1].replace("IN", packed.name).replace("OUT", "unpacked.pcap")

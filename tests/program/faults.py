@@ -17,7 +17,7 @@ from typing import NamedTuple
 
 import paths  # noqa: F401
 
-from command import STRIP, TOP, asked, fixed, new_folder, report_cases
+from command import STRIP, TOP, asked, fixed, new_folder, report_cases, said, saying
 
 LONGEST = 1_048_576
 OPEN = "port 0 received 0 nobuf 0 oversize 0 sent 0 input open\npool 0 free 64 of 64\ncalls 0 refused 0\n"
@@ -304,9 +304,10 @@ def cases() -> list[Case]:
 def ends_so(program: str, case: Case, folder: pathlib.Path) -> bool:
     """Whether the program ends as the case says."""
     run = subprocess.run([program, *case.words], cwd=folder, capture_output=True, text=True, timeout=60)
-    passed = (run.returncode, run.stdout, fixed(run.stderr)) == (case.status, case.printed, case.reported)
+    printed, reported = said(run.stdout, run.stderr)
+    passed = (run.returncode, printed, fixed(reported)) == (case.status, case.printed, case.reported)
     if not passed:
-        print(f"dpv {' '.join(case.words)}: status {run.returncode}, printed {run.stdout!r}, reported {run.stderr!r}")
+        print(f"dpv {' '.join(case.words)}: status {run.returncode}, printed {printed!r}, reported {reported!r}")
     return passed
 
 
@@ -461,6 +462,7 @@ def main() -> int:
         passed += capture_cases(program, folder)
         passed += largest_cases(program, folder)
         passed += [is_heard(program, words) for words in PRINTING]
+        passed += [is_heard(saying(program, folder), words) for words in PRINTING if words[0] == "trace"]
     return report_cases("faults", passed)
 
 

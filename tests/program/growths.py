@@ -13,7 +13,7 @@ import sys
 import paths  # noqa: F401
 
 from allocations import Ended, shim_in
-from command import asked, fixed, new_folder
+from command import asked, fixed, new_folder, said_bytes
 from faults import capture
 from model import answers, rules
 from model.machine import Env, Pool, Port, Ring
@@ -126,6 +126,14 @@ COMMANDS = [
 ]
 
 
+def ended_by(words: list[str], shim: pathlib.Path, number: int) -> Ended:
+    """How a command ends with an allocation refused. What it prints of verdicts with --json is a document of facts, which is compared as `dpv` says it."""
+    ended = Ended(words, shim, number)
+    if ended.printed.startswith(b'{"view":"report"'):
+        ended.printed, _ = said_bytes(ended.printed)
+    return ended
+
+
 def is_like(ended: Ended, whole: Ended) -> bool:
     """Whether a run did all that another did."""
     # (the line at fault and the cure are left out where there is no memory for them)
@@ -135,9 +143,9 @@ def is_like(ended: Ended, whole: Ended) -> bool:
 
 def refuse_each(program: str, words: list[str], status: int, shim: pathlib.Path) -> bool:
     """Whether a command ends as it has to with each of its allocations refused; prints how many there were."""
-    whole, refused, bad = Ended([program, *words], shim, 0), 0, 0
+    whole, refused, bad = ended_by([program, *words], shim, 0), 0, 0
     for number in range(1, whole.allocations + 1):
-        ended = Ended([program, *words], shim, number)
+        ended = ended_by([program, *words], shim, number)
         refused += ended.is_refused(whole)
         if not ended.is_refused(whole) and not is_like(ended, whole):
             bad += 1

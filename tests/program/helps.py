@@ -14,7 +14,7 @@ import sys
 
 import paths  # noqa: F401
 
-from command import asked, new_folder, report_cases
+from command import asked, new_folder, ran, report_cases, said, saying
 from faults import HEADER, capture
 from model.machine import Env, Pool, Port, Ring
 
@@ -28,7 +28,9 @@ PROGRAMS: list[tuple[bytes, int, int, str, str]] = [
     (b"adj p8,1\nexit\n", 1, 4, REGISTER, "'p8' has to be a packet register, p0 to p7"),
     (b"add p1,2\n", 1, 4, REGISTER, "'p1' has to be a number register, r0 to r7"),
     (b"add 5,1\n", 1, 4, REGISTER, "'5' has to be a number register, r0 to r7; set puts a number into one"),
+    (b"add +5,1\n", 1, 4, REGISTER, "'+5' has to be a number register, r0 to r7; set puts a number into one"),
     (b"adj p0,x\n", 1, 5, NUMBER, "'x' has to be a number from 0 to 65535"),
+    (b"set r0,0x10000000000000000\n", 1, 5, NUMBER, "'0x10000000000000000' has to be a number from 0 to 18446744073709551615"),
     (b"load r1,p0,0,3\n", 1, 5, NUMBER, "'3' has to be a width in bytes: 1, 2, 4 or 8"),
     (b"add r1,x\n", 1, 5, NUMBER, "'x' has to be a number register, r0 to r7, or a number"),
     (b"tx p0,r0,9a\n", 1, 6, "a label is not a name", f"'9a' {LABEL}"),
@@ -176,6 +178,11 @@ CHANGED: list[tuple[bytes, bytes, str, str, str, str]] = [
     (RING, SEVEN, "3 BadEnv 1 0", "there are too few or too many pools, tables, rings or ports", "", "pools are 1 to 8 (here 1), tables 0 to 4 (7), rings 0 to 8 (0), ports 1 to 8 (1)"),
     (b"[[pool]]\ncount = 8\ncache = 0\nroom = 2176", b"pool = [1]", "2 BadKey top 0", KEY, ":2: pool = [1]", "'pool' has to be given by tables in double brackets, as [[port]]"),
     (b"routes = []", b"routes = [1]", "2 BadKey table 0", KEY, ":9: routes = [1]", f"'routes' has to be {PARTS['table']['routes'][1]}"),
+    # A time, and what TOML has had since 1.1: an inline table on several lines.
+    (b"region = 1048576", b"region = 1979-05-27", "2 BadKey top 0", KEY, ":1: region = 1979-05-27", f"'region' has to be {REGION}"),
+    (b"queue = 4", b"queue = { a = 1,\nb = 2, }", "2 BadKey port 0", KEY, ":23: queue = { a = 1,", f"'queue' has to be {POWER}"),
+    (b"region = 1048576", b"region =", "1 NotToml", "the text is not TOML", ":1: region =",
+     "invalid value, expected a string, number, boolean, date-time, array or inline table"),
     # Blanks in a header, quotes around a key, and the second port.
     (b"[[port]]\npool = 0", b"[[ port ]]\npool = 8", "3 BadEnv 4 0", "port 0 is not within the limits", ":21: pool = 8", f"'pool' has to be {whole(0, 7)}"),
     (b"queue = 4", b'"queue" = -4', "2 BadKey port 0", KEY, ':23: "queue" = -4', f"'queue' has to be {POWER}"),
@@ -200,9 +207,10 @@ def is_said(program: str, folder: pathlib.Path, words: list[str], data: bytes, r
     """Whether a command reports this of the last file that its words name, with this content."""
     (folder / words[-1]).write_bytes(data)
     run = subprocess.run([program, *words], cwd=folder, capture_output=True, timeout=60)
-    passed = (run.returncode, run.stdout, run.stderr.decode()) == (3, b"", reported)
+    came = said("", run.stderr.decode())[1]
+    passed = (run.returncode, run.stdout, came) == (3, b"", reported)
     if not passed:
-        print(f"helps: {data[-300:]!r}: expected\n{reported}came\n{run.stderr.decode()}")
+        print(f"helps: {data[-300:]!r}: expected\n{reported}came\n{came}")
     return passed
 
 
@@ -336,14 +344,93 @@ def is_counted(program: str, folder: pathlib.Path) -> bool:
         (folder / "counted" / name).write_text(text)
     for number, records in enumerate(inputs):
         (folder / f"counted/in{number}.pcap").write_bytes(capture(*records))
-    run = subprocess.run([program, "run", "it.toml", "--source", "--drops"], cwd=folder / "counted", capture_output=True, text=True, timeout=60)
-    _, last, counts = run.stdout.partition("calls 21 refused 0\n")
-    made = subprocess.run([program, "run", "it.toml", "--source", "--json"], cwd=folder / "counted", capture_output=True, text=True, timeout=60)
-    named = [f"{it['node']} count {it['name']} {it['packets']}" for it in json.loads(made.stdout).get("named", [])]
+    status, printed, reported = ran(program, folder / "counted", "run", "it.toml", "--source", "--drops")
+    _, last, counts = printed.partition("calls 21 refused 0\n")
+    _, made, _ = ran(program, folder / "counted", "run", "it.toml", "--source", "--json")
+    named = [f"{it['node']} count {it['name']} {it['packets']}" for it in json.loads(made).get("named", [])]
     passed = named == [line for line in BY_LINES.splitlines() if line.startswith("port") and " count " in line]
-    passed = passed and (run.returncode, counts, run.stderr) == (0, BY_LINES, "port 0: its transmit list was full 3 times when a packet came: raise its queue\n")
+    passed = passed and (status, counts, reported) == (0, BY_LINES, "port 0: its transmit list was full 3 times when a packet came: raise its queue\n")
     if not passed:
-        print(f"helps: counted: expected\n{BY_LINES}came\n{last}{run.stdout}{run.stderr}{named}")
+        print(f"helps: counted: expected\n{BY_LINES}came\n{last}{printed}{reported}{named}")
+    return passed
+
+
+def facts(nodes: list[tuple[str, str, str]], ports: int = 1) -> str:
+    """What the program prints of a run that is counted by lines: of each node its name, its file, and its program, where an instruction has before it
+    how often it ran, jumped and was cut. Two records of each port found too few buffers."""
+    port = {"cut_at": None, "full": 0, "input": "whole", "nobuf": 2, "oversize": 0, "pool": 0, "queue": 4, "received": 3, "segs": 1, "sent": 0, "truncated": 0}
+    all_of = []
+    for node, file, text in nodes:
+        lines = []
+        for line in text.splitlines():
+            numbers, bar, rest = line.partition("| ")
+            lines.append({"text": line} if not bar else {**dict(zip(("ran", "taken", "cut"), map(int, numbers.split()))), "text": rest})
+        all_of.append({"file": file, "lines": lines, "node": node})
+    made = {"counts": False, "drops": True, "lines": True, "nodes": all_of, "pools": [], "ports": ports * [port], "rings": []}
+    return json.dumps({"view": "counts", **made}, separators=(",", ":")) + "\n"
+
+
+# Programs with counts, as the program prints them, and what is said: a jump to itself that is cut, a label before the line that it names, and
+# jumps to the first and to the second of two that free; and of a program that `dpv build` wrote, in which one instruction has no line.
+CUT = """# two to the ring, which takes one
+
+3 1 0|         iflen p0,4,drop
+2 0 0|         load r1,p0,0,4
+2 1 0|         lookup r2,0,r1,drop     # the hop
+1 0 0|         clone p1,p0,0,drop
+1 0 0|         enq p1,0,both
+257 256 1| again:  enq p0,0,again          # full
+0 0 0|         exit
+0 0 0| both:   free p1
+drop:
+2 0 0|         free p0
+2 0 0|         exit
+"""
+CUT_SAID = f"""port 0 port.dpv
+{COLUMNS}         3                   1  3: iflen p0,4,drop
+         2                      4: load r1,p0,0,4
+         2                   1  5: lookup r2,0,r1,drop     # the hop
+         1                      6: clone p1,p0,0,drop
+         1         1            7: enq p1,0,both
+       257                      8: again:  enq p0,0,again          # full
+         0                      9: exit
+         0                      10: both:   free p1
+         2                      12: free p0
+         2                      13: exit
+         2  port 0 records that found too few free buffers
+         1  port 0 port.dpv:3: iflen p0,4,drop
+         1  port 0 port.dpv:5: lookup r2,0,r1,drop     # the hop
+"""
+WROTE = """# Built from a.pkt by `dpv build`
+9 4 0|         iflen p0,4,L1     # net.pkt:2: need 4 bytes else drop "short"
+5 0 0|         load\tr1,p0,0,4    # 3: if r1 { }
+5 0 0|         jeq r1,0,L1       # 3: if r1 { }
+5 0 0|         add r0,0          # count all: 4: count all
+0 0 0|         add r0,0          # 18446744073709551616: this has no number, and belongs to the line before
+5 2 0|         tx p0, r0, L1     # 5: send port
+3 0 0|         exit              # 5: send port
+L1:
+6 0 0|         free p0           # what is held is dropped
+6 0 0|         exit              # what is held is dropped
+"""
+WROTE_SAID = f"""ring 1 a.pkt
+{COLUMNS}         5                      3: if r1 {{ }}
+         5                      4: count all
+         5         3         2  5: send port
+         9                   4  net.pkt:2: need 4 bytes else drop "short"
+ring 1 count all 5
+         4  ring 1 net.pkt:2: need 4 bytes else drop "short"
+         2  ring 1 a.pkt:5: send port
+"""
+
+
+def says_facts() -> list[bool]:
+    """Whether this is said of such programs."""
+    passed = []
+    for line, wanted in ((facts([("port 0", "port.dpv", CUT)]), CUT_SAID), (facts([("ring 1", "a.dpv", WROTE)], 0), WROTE_SAID)):
+        passed.append(said(line)[0] == wanted)
+        if not passed[-1]:
+            print(f"helps: facts: expected\n{wanted}came\n{said(line)[0]}")
     return passed
 
 
@@ -376,10 +463,9 @@ def has_no_room(program: str, folder: pathlib.Path) -> bool:
     found = []
     for region in (4096, least - 64, least):
         (folder / "kept/small.toml").write_text(KEPT.replace("262144", str(region)))
-        run = subprocess.run([program, "run", "small.toml"], cwd=folder / "kept", capture_output=True, text=True, timeout=60)
-        found.append((run.returncode, run.stderr))
+        found.append(ran(program, folder / "kept", "run", "small.toml")[::2])
     (folder / "kept/small.toml").write_text(KEPT.replace("262144", "4096"))
-    sizes = subprocess.run([program, "check", "small.toml", "--sizes"], cwd=folder / "kept", capture_output=True, text=True, timeout=60).stdout
+    sizes, _ = said(subprocess.run([program, "check", "small.toml", "--sizes"], cwd=folder / "kept", capture_output=True, text=True, timeout=60).stdout)
     passed = found == wanted and sizes.endswith(f"\n{'sum':42}{need:>12}\n{'region':42}{4096:>12}\n{'missing':42}{need - 4096:>12}\n")
     if not passed:
         print(f"helps: no room: expected {wanted}, came {found}, and {need - 4096} missing:\n{sizes}")
@@ -400,8 +486,7 @@ def runs(program: str, folder: pathlib.Path) -> list[bool]:
     passed = []
     for name, notes, drops, places in (("kept", KEPT_NOTES, KEPT_DROPS, KEPT_PLACES), ("lost", LOST_NOTES, LOST_DROPS, LOST_PLACES)):
         def run(*words: str, where: str = name) -> tuple[int, str, str]:
-            done = subprocess.run([program, "run", "it.toml", *words], cwd=folder / where, capture_output=True, text=True, timeout=60)
-            return done.returncode, done.stdout, done.stderr
+            return ran(program, folder / where, "run", "it.toml", *words)
 
         plain, counted, dropped, both, (status, printed, reported) = run(), run("--counts"), run("--drops"), run("--counts", "--drops"), run("--drops", "--counts", "--json")
         doc = json.loads(printed) if printed else {}
@@ -438,9 +523,10 @@ def is_fault_of_a_run(program: str, folder: pathlib.Path) -> bool:
     """Whether a run, which reads programs by another function than infer-one, reports the fault of a long program, and not lack of memory."""
     (folder / "long.dpv").write_bytes(b"# " + 1_000_000 * b"x" + b"\nexit\nqqqqqqqq\n")
     ran = subprocess.run([program, "filter", "long.dpv", "in.pcap", "out.pcap"], cwd=folder, capture_output=True, text=True, check=False)
-    passed = ran.returncode == 3 and ran.stderr.startswith("fault: pipeline 6 Asm port 0 line 3 cause 2\n")
+    reported = said("", ran.stderr)[1]
+    passed = ran.returncode == 3 and reported.startswith("fault: pipeline 6 Asm port 0 line 3 cause 2\n  because: ")
     if not passed:
-        print(f"helps: filter of a long program: status {ran.returncode}: {ran.stderr[:100]}")
+        print(f"helps: filter of a long program: status {ran.returncode}: {reported[:100]}")
     return passed
 
 
@@ -450,8 +536,8 @@ def main() -> int:
     with new_folder() as folder:
         passed = [is_said(program, folder, ["infer-one", "node.dpv"], *case) for case in programs()]
         passed += [is_said(program, folder, ["check", "it.toml"], *case) for case in pipelines()]
-        passed += runs(program, folder) + traces(program, folder)
-        passed.append(is_counted(program, folder))
+        passed += runs(program, folder) + traces(saying(program, folder), folder)
+        passed += [is_counted(program, folder), *says_facts()]
         passed.append(is_fault_of_a_run(program, folder))
     return report_cases("helps", passed)
 

@@ -20,7 +20,7 @@ from typing import Any, NamedTuple
 
 import paths  # noqa: F401
 
-from command import TOP, asked, new_folder
+from command import TOP, asked, new_folder, said, said_bytes, saying
 from model.machine import Instr
 from model.programs import assemble
 from model.rules import JUMPS
@@ -99,7 +99,7 @@ class Ran(NamedTuple):
 def run(program: str, folder: pathlib.Path, *words: str) -> Ran:
     """Runs a command in a folder."""
     done = subprocess.run([program, *words], cwd=folder, stdin=subprocess.DEVNULL, capture_output=True, timeout=300)
-    return Ran(done.returncode, done.stdout, done.stderr)
+    return Ran(done.returncode, *said_bytes(done.stdout, done.stderr))
 
 
 def document(out: bytes) -> Any:
@@ -270,7 +270,7 @@ def capture(frames: list[bytes]) -> bytes:
 def launcher(program: str, folder: pathlib.Path) -> str:
     """A script that starts the program as an installed dpv does."""
     script = folder / "dpv"
-    script.write_text(f'#!/bin/sh\nprogram="{program}" pkt="{TOP}/tools/pkt" compiled_nodes="{TOP}/tools/compiled_nodes.py" version= commit=\n. "{TOP}/tools/launch"\nlaunch "$@"\n')
+    script.write_text(f'#!/bin/sh\nprogram="{program}" pkt="{TOP}/tools/pkt" compiled_nodes="{TOP}/tools/compiled_nodes.py" views="{TOP}/tools/views" version= commit=\n. "{TOP}/tools/launch"\nlaunch "$@"\n')
     script.chmod(0o755)
     return str(script)
 
@@ -577,7 +577,8 @@ def main() -> int:
     with new_folder() as outer:
         top = outer / "examples"
         shutil.copytree(EXAMPLES, top)
-        cases = runs(program, top) + costs(program, top) + traces(program, top)
+        said = saying(program, outer)
+        cases = runs(program, top) + costs(said, top) + traces(said, top)
         # (these add pipelines that are at fault)
         cases += sources(program, outer) + verdicts(program, top) + faults(program, top)
     failed = [name for name, passed in cases if not passed]

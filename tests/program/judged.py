@@ -14,7 +14,7 @@ from typing import NamedTuple
 
 import paths  # noqa: F401
 
-from command import asked, new_folder, report_cases
+from command import asked, new_folder, report_cases, said, saying
 from faults import capture
 
 # A row in which p0 is sole, with a headroom of 128 and one segment, and such rows of a longer and of a shorter packet. Zeros follow.
@@ -37,6 +37,9 @@ AT_INDEX = "iflen p0,14,d\nload r2,p0,0,WIDTH\nloadx r1,p0,r2,0,1\nd: free p0\ne
 # A program that writes to a packet that another register shares, none of them p0.
 SECOND = "alloc p1,0,d\nappend p1,14\nclone p2,p1,0,e\nstore p1,0,8,r0\nfree p2\ne: free p1\nd: free p0\nexit\n"
 J6, J11 = "J6: the packet has the bytes or the room that the instruction needs", "J11: the facts after the instruction satisfy the row of each successor"
+
+# Lines that look like documents, which a name may have.
+FORGED = ('{"view":"losses"}', '{"view":"record","x":1}', '{"view":"no","view":[]}', '{"view":"show","nodes":[3]}', r'{"view":"unread","reason":"\ud800"}')
 
 
 class Case(NamedTuple):
@@ -239,6 +242,8 @@ SHOWN = (
 )
 ASM = """fault: pipeline 6 Asm port 0 line 2 cause 5
   because: line 2: an operand is not a number, or is out of its range
+  at: node.dpv:2: adj p0,65536
+  help: '65536' has to be a number from 0 to 65535
 """
 # What each command prints about a faulty text.
 FAULTY = tuple(Case(command, "exit\nadj p0,65536\n", (), 3, "", ASM) for command in ("explain-one", "show-one", "infer-one"))
@@ -247,6 +252,9 @@ INFERRED = (
     Case("infer-one", "exit\n", (), 1, "port 0 not inferred at 0 by J10\n",
          "  at: node.dpv:1: exit\n  J10: at exit no register holds a packet\n  known:  p0 sole, headroom 128, at most 1 segment\n"
          "  wanted: p0 empty\n  help:   free p0 before it\n"),
+    Case("infer-one", "free p0\n", (), 1, "port 0 not inferred at 0 by J3\n",
+         "  at: node.dpv:1: free p0\n  J3: the pool, the table, the ring and each label exist\n  known:  the number of instructions is 1\n"
+         "  wanted: an instruction with the number 1, from 0\n  help:   end the program with exit or jmp\n"),
 )
 UNFIT = "  because: the certificate node.cert does not fit the program node.dpv\n"
 RUN = (
@@ -329,6 +337,27 @@ OF_PIPELINE = (
     (["infer", "case.toml", "port4"], 1, "port 1 not inferred at 0 by J9\n", "  help: dpv explain case.toml port1 explains why\n"),
 )
 
+# A pipeline of one port with the program STRIP; the words on it, the status, what is printed and what is reported.
+ACCEPTED = """region = 262144
+[[pool]]
+count = 64
+cache = 0
+room = 2176
+[[port]]
+pool = 0
+segs = 1
+queue = 32
+node = "strip.dpv"
+in = "a"
+out = "b"
+"""
+OF_ACCEPTED = (
+    (["check", "accepted.toml"], 0, "port 0 accepted\n", ""),
+    (["check", "accepted.toml", "--json"], 0, '{"fault":null,"nodes":[{"node":"port 0","verdict":"accepted"}]}\n', ""),
+    (["infer", "accepted.toml", "port0"], 0, INFERRED[0].printed, ""),
+    (["infer", "accepted.toml", "ring0"], 2, "", "error: the pipeline has no ring 0\n"),
+)
+
 # Programs, and the most labels along which control goes: through STRIP, PASS and LATE not by the first exit; and COUNT has 7 instructions.
 LATE = "iflen p0,14,d\nenq p0,0,d\nexit\nd: free p0\nexit\n"
 COUNT = "set r1,0\na: add r1,1\njlt r1,200,a\ntx p0,r0,e\nexit\ne: free p0\nexit\n"
@@ -374,17 +403,18 @@ def cost_cases(program: str, folder: pathlib.Path) -> list[bool]:
     for name, (text, _) in TAKES.items():
         (folder / name).write_text(text)
     passed = []
-    for ports, rings, said in COSTS:
+    for ports, rings, lines in COSTS:
         text, first = costs(ports, rings)
         (folder / "cost.toml").write_text(text)
-        passed.append(is_said(program, folder, ["check", "cost.toml", "--cost"], 0, first + said, ""))
-        made = subprocess.run([program, "check", "cost.toml", "--cost", "--json"], cwd=folder, capture_output=True, text=True, timeout=60).stdout
-        passed.append(json.loads(made)["turn"] == turn_in(said))
+        passed.append(is_said(program, folder, ["check", "cost.toml", "--cost"], 0, first + lines, ""))
+        ran = subprocess.run([program, "check", "cost.toml", "--cost", "--json"], cwd=folder, capture_output=True, text=True, timeout=60)
+        made, _ = said(ran.stdout)
+        passed.append(json.loads(made)["turn"] == turn_in(lines))
         if not passed[-1]:
             print(f"judged: the costs of {ports} and {rings}: {made}")
-    sizes = subprocess.run([program, "check", "cost.toml", "--sizes"], cwd=folder, capture_output=True, text=True, timeout=60).stdout
+    sizes, _ = said(subprocess.run([program, "check", "cost.toml", "--sizes"], cwd=folder, capture_output=True, text=True, timeout=60).stdout)
     accepted = "".join(line for line in first.splitlines(keepends=True) if line.endswith(" accepted\n"))
-    both = first + said + sizes.removeprefix(accepted)
+    both = first + lines + sizes.removeprefix(accepted)
     passed.append(sizes.startswith(accepted) and is_said(program, folder, ["check", "cost.toml", "--sizes", "--cost"], 0, both, ""))
     (folder / "lost.dpv").write_text(LOST)
     (folder / "cost.toml").write_text(costs(["strip.dpv"], [])[0].replace("strip", "lost"))
@@ -503,10 +533,16 @@ def certificate(rows: tuple[str, ...]) -> str:
 def is_said(program: str, folder: pathlib.Path, words: list[str], status: int, printed: str, reported: str) -> bool:
     """Whether a command ends so. A report may have more lines than those."""
     run = subprocess.run([program, *words], cwd=folder, capture_output=True, text=True, timeout=60)
-    passed = (run.returncode, run.stdout) == (status, printed) and run.stderr.startswith(reported) and bool(run.stderr) == bool(reported)
+    out, err = said(run.stdout, run.stderr)
+    passed = (run.returncode, out) == (status, printed) and err.startswith(reported) and bool(err) == bool(reported)
     if not passed:
-        print(f"judged: {words}: status {run.returncode}, printed\n{run.stdout}reported\n{run.stderr}")
+        print(f"judged: {words}: status {run.returncode}, printed\n{out}reported\n{err}")
     return passed
+
+
+def is_kept(program: str, folder: pathlib.Path, line: str) -> bool:
+    """Whether a line of a name that looks like a document is said as it is."""
+    return is_said(program, folder, ["check", f"no\n{line}"], 3, "", f"fault: file no\n{line}\n  because: No such file or directory (os error 2)\n")
 
 
 def is_judged(program: str, folder: pathlib.Path, case: Case) -> bool:
@@ -527,12 +563,13 @@ def main() -> int:
     with new_folder() as folder:
         passed = [is_judged(program, folder, case) for case in (*EXPLAINED, *SHOWN, *FAULTY, *INFERRED, *RUN)]
         files = {"case.toml": PIPELINE, "pass.dpv": PASS, "queue.dpv": PASS.replace("tx p0,r0", "enq p0,0"), "long.dpv": LONG,
-                 "pass.cert": certificate((SOLE, NONE, ONE_BYTE, NONE))}
+                 "pass.cert": certificate((SOLE, NONE, ONE_BYTE, NONE)), "accepted.toml": ACCEPTED, "strip.dpv": STRIP}
         for name, text in files.items():
             (folder / name).write_text(text)
-        passed += [is_said(program, folder, *case) for case in OF_PIPELINE]
+        passed += [is_said(program, folder, *case) for case in (*OF_PIPELINE, *OF_ACCEPTED)]
+        passed += [is_kept(program, folder, line) for line in FORGED]
         passed.append(is_built(program, folder))
-        passed += cost_cases(program, folder) + trace_cases(program, folder)
+        passed += cost_cases(program, folder) + trace_cases(saying(program, folder), folder)
     return report_cases("judged", passed)
 
 

@@ -93,7 +93,7 @@ class Launched:
     def __init__(self, program: str, folder: pathlib.Path) -> None:
         self.folder, self.temporary, self.script = folder, folder / "temporary", folder / "dpv"
         self.temporary.mkdir()
-        self.script.write_text(f'#!/bin/sh\nset -eu\nprogram="{program}" pkt="{TOP}/tools/pkt" compiled_nodes="{TOP}/tools/compiled_nodes.py" version= commit=\n. "{TOP}/tools/launch"\nlaunch "$@"\n')
+        self.script.write_text(f'#!/bin/sh\nset -eu\nprogram="{program}" pkt="{TOP}/tools/pkt" compiled_nodes="{TOP}/tools/compiled_nodes.py" views="{TOP}/tools/views" version= commit=\n. "{TOP}/tools/launch"\nlaunch "$@"\n')
         self.script.chmod(0o755)
         shutil.copy(TOP / "examples/nat/in.pcap", folder)
         texts = {"send.pkt": SEND, "-x.pkt": SEND, "my -x.pkt": SEND, **dict.fromkeys(OPTIONS, SEND), "includes.pkt": INCLUDES, "net.pkt": NET, "empty.pkt": "", "wrong.pkt": "sned\n"}

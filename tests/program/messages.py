@@ -22,13 +22,22 @@ from typing import NamedTuple
 
 import paths  # noqa: F401
 
-from command import asked, nested_folder, report_cases
+from command import asked, nested_folder, new_folder, report_cases, said, saying
 from faults import HEADER, ONE, POOL, capture, make_files, pipeline, run_of
 
 PCAPNG = "it is a pcapng file; editcap -F nsecpcap IN OUT converts it to a capture"
 MODIFIED = "it is a modified pcap file; editcap -F pcap IN OUT converts it to a capture"
+PACKED_BY = "it is compressed by {0}; {0} -dc IN > OUT unpacks it"
 # How compressed files begin.
 PACKED = {"gzip": b"\x1f\x8b", "bzip2": b"BZh", "xz": b"\xfd7zXZ\0", "zstd": b"\x28\xb5\x2f\xfd", "lz4": b"\x04\x22\x4d\x18"}
+# Files that are no captures, by how they begin, with the cause and the reason.
+REST = 30 * b"."
+FRONTS = [
+    (b"\x0a\x0d\x0d\x0a\x1c\0" + REST, 1, PCAPNG), (b"\x0a\x0d\x0d" + REST, 1, "no magic number of a pcap file"), (b"\x1f\x8b\x08" + REST, 1, PACKED_BY.format("gzip")),
+    (b"BZh9" + REST, 1, PACKED_BY.format("bzip2")), (b"\xfd7zXZ\0\0" + REST, 1, PACKED_BY.format("xz")), (b"\xfd7zXZ" + REST, 1, "no magic number of a pcap file"),
+    (b"\x28\xb5\x2f\xfd" + REST, 1, PACKED_BY.format("zstd")), (b"\x04\x22\x4d\x18" + REST, 1, PACKED_BY.format("lz4")),
+    (b"\xd4\xc3\xb2\xa1\x0a\x0d" + REST, 2, "the version is not 2.4"), (b"", 6, "fewer than the 24 bytes of a header"),
+]
 NOBODY = 65_534
 MILLION = 1_000_000
 
@@ -122,6 +131,7 @@ def captures() -> Iterator[Case]:
         "new.pcapng": (1, PCAPNG),
         "modified.pcap": (1, MODIFIED),
         "swapped.pcap": (1, MODIFIED),
+        "nearly.xz": (1, "no magic number of a pcap file"),
         "version.pcap": (2, "the version is not 2.4"),
         "link.pcap": (3, "the link type is 101 RAW, and not 1 ETHERNET"),
         "time.pcap": (4, "the fraction of a record's time is a second or more"),
@@ -132,7 +142,9 @@ def captures() -> Iterator[Case]:
     for name, (cause, reason) in words.items():
         yield strips(name, "out", of_input(0, cause, name, reason))
     for tool in PACKED:
-        yield strips(f"packed.{tool}", "out", of_input(0, 1, f"packed.{tool}", f"it is compressed by {tool}; {tool} -dc IN > OUT unpacks it"))
+        yield strips(f"packed.{tool}", "out", of_input(0, 1, f"packed.{tool}", PACKED_BY.format(tool)))
+    for number, (_, cause, reason) in enumerate(FRONTS):
+        yield strips(f"front{number}.pcap", "out", of_input(0, cause, f"front{number}.pcap", reason))
     yield Case(["run", "no_header.toml"], 3, of_input(0, 6, "short.pcap", words["short.pcap"][1]))
     yield Case(["run", "no_other_header.toml"], 3, of_input(1, 3, "link.pcap", words["link.pcap"][1]))
     yield Case(["run", "no_bytes.toml"], 3, of_input(1, 8, "folder", system(errno.EISDIR)))
@@ -165,6 +177,8 @@ def links() -> Iterator[Case]:
     bits = "the link type is 1 ETHERNET with 1 in the upper 16 bits, and not 1 ETHERNET alone"
     cure = "  help: capture on an Ethernet interface: these bits do not say that each frame ends with a checksum of 4 bytes\n"
     yield strips("bits.pcap", "out", of_input(0, 3, "bits.pcap", bits) + cure)._replace(is_whole=True)
+    cooked = "the link type is 113 LINUX_SLL with 9216 in the upper 16 bits, and not 1 ETHERNET alone"
+    yield strips("cooked.pcap", "out", of_input(0, 3, "cooked.pcap", cooked) + f"  help: {LINKS[113][1]}\n")._replace(is_whole=True)
     raw = of_input(1, 3, "101.big.pcap", "the link type is 101 RAW, and not 1 ETHERNET") + f"  help: {LINKS[101][1]}\n"
     yield Case(["run", "two_links.toml"], 3, raw, is_whole=True)
     yield Case(["trace", "two_links.toml"], 3, raw, is_whole=True)
@@ -335,6 +349,10 @@ def pipelines() -> Iterator[Case]:
         "port": ("2 BadKey port 0", key),
         "env": ("3 BadEnv 4 0", "port 0 is not within the limits"),
         "pools": ("3 BadEnv 1 0", "there are too few or too many pools, tables, rings or ports"),
+        "no_pool": ("3 BadEnv 2 3", "pool 3 is not within the limits"),
+        "no_ring": ("3 BadEnv 3 7", "ring 7 is not within the limits"),
+        "no_port": ("3 BadEnv 4 1", "port 1 is not within the limits"),
+        "many_buffers": ("3 BadEnv 5 0", "the pools have too many buffers in all"),
         "route": ("4 BadTable 0 1 3", "no room for another rule"),
         "depth": ("4 BadTable 0 0 1", "the depth is not 1 to 32"),
         "hop": ("4 BadTable 0 0 2", "the hop is above 16777215"),
@@ -398,6 +416,10 @@ def traces() -> Iterator[Case]:
     yield Case(["trace", "no_header.toml", "--only", "sent"], 3, of_input(0, 6, "short.pcap", "fewer than the 24 bytes of a header"))
     yield Case(["trace", "both.toml", "--port", "1", "--records", "1", "--only", "sent", "--instr", "0"], 0, "")
     yield Case(["trace", "both.toml", "--port", "1", "--records", "1"], 0, "")
+    for more in ("--only=01", "--instr=+0", "--instr=000000", "--match=::02:00:@0", "--match=02@000000"):
+        yield Case(["trace-one", "strip.dpv", "strip.cert", "in.pcap", more], 0, "")
+    for pattern in ("256.0.0.1", "1.0.0.0x1", "00@65536", "@0", "00@", "0g@0"):
+        yield Case(["trace-one", "none", "none", "none", "--match", pattern], 2, f"error: '{pattern}' is neither an address A.B.C.D nor BYTES@OFFSET, as 0800@12\n")
     for pattern in ("+10.0.0.1", "0800@+12", "10.0.0", "080@12", "0:800@12", f"{17 * '00'}@0"):
         yield Case(["trace", "none", "--match", pattern], 2, f"error: '{pattern}' is neither an address A.B.C.D nor BYTES@OFFSET, as 0800@12\n")
     unmatched = "note: no record of the trace was selected\n"
@@ -483,6 +505,10 @@ def make_more(folder: pathlib.Path) -> None:
     table = '[[table]]\nrules = 1\ngroups = 0\nroutes = ["{}"]\n'
     texts = {
         "pools": pipeline(["none"]).replace(POOL, 9 * POOL),
+        "no_pool": pipeline(["none"]).replace(POOL, 3 * POOL + POOL.replace("count = 4", "count = 0")),
+        "no_ring": pipeline(["none"], 8 * ["none"])[::-1].replace("segs = 64"[::-1], "segs = 65"[::-1], 1)[::-1],
+        "no_port": pipeline(["none", "none"])[::-1].replace("segs = 1"[::-1], "segs = 0"[::-1], 1)[::-1],
+        "many_buffers": pipeline(["none"]).replace(POOL, POOL + POOL.replace("count = 4", "count = 65532")),
         "depth": pipeline(["none"], table=table.format("10.0.0.0/33 1")),
         "hop": pipeline(["none"], table=table.format("10.0.0.0/8 16777216")),
         "unread_route": pipeline(["none"], table=table.format("10.0.0.0 1")),
@@ -535,6 +561,7 @@ def make_more(folder: pathlib.Path) -> None:
         "a.pkt": b"send port\n",
         **dict.fromkeys(("beside/its.dpv", "beside/its.cert", "beside/its.pcap"), b"something"),
         **{f"packed.{tool}": begin + bytes(30) for tool, begin in PACKED.items()},
+        **{f"front{number}.pcap": content for number, (content, _, _) in enumerate(FRONTS)},
         "lost6.dpv": 6 * b"exit\n",
         "loop.dpv": b"enq p0,0,d\nexit\nd: free p0\nexit\n",
         "endless.dpv": b"a: jmp a\n",
@@ -550,6 +577,8 @@ def make_more(folder: pathlib.Path) -> None:
         "snapped.pcap": HEADER + struct.pack("<IIII", 1, 2, 4, 60) + b"data",
         "checksums.pcap": header_of("little", 0x2400_0001),
         "bits.pcap": header_of("little", 0x0001_0001),
+        "cooked.pcap": header_of("big", 0x2400_0071),
+        "nearly.xz": b"\xfd7zXZ" + bytes([1] * 30),
     }
     data.update((f"{link}.{order}.pcap", header_of(order, link)) for link in LINKS for order in ("little", "big"))
     for name, (rules, groups, routes) in TABLES.items():
@@ -571,10 +600,11 @@ def ends_so(program: str, case: Case, folder: pathlib.Path, user: int | None = N
         run = subprocess.run([program, *case.words], cwd=folder, stdin=given, capture_output=True, text=True, timeout=60, user=user)
     kept = (folder / "kept.pcap").read_bytes() == ONE
     # (the line at fault of a text and its cure are tests/program/mistakes.py's)
-    reported = run.stderr if case.is_whole else re.sub(r"(?m)^  (?:at|help): .*\n", "", run.stderr)
+    whole = said("", run.stderr)[1]
+    reported = whole if case.is_whole else re.sub(r"(?m)^  (?:at|help): .*\n", "", whole)
     passed = (run.returncode, reported, kept) == (case.status, case.reported, True)
     if not passed:
-        print(f"dpv {' '.join(case.words)}: status {run.returncode}, reported {run.stderr!r} and not {case.reported!r}" + ("" if kept else "; the capture is gone"))
+        print(f"dpv {' '.join(case.words)}: status {run.returncode}, reported {whole!r} and not {case.reported!r}" + ("" if kept else "; the capture is gone"))
     return passed
 
 
@@ -604,8 +634,11 @@ def main() -> int:
     with nested_folder() as folder:
         make_files(folder)
         make_more(folder)
-        kinds = (files, captures, links, unfit, cures, route_files, in_folders, full_disks, pipelines, same_files, no_text, options, traces, progress, drops, nothing_reported)
+        kinds = (files, captures, links, unfit, cures, route_files, in_folders, full_disks, pipelines, same_files, no_text, options, progress, drops, nothing_reported)
         passed = [ends_so(program, case, folder) for kind in kinds for case in kind()]
+        with new_folder() as other:
+            said = saying(program, other)
+            passed += [ends_so(said, case, folder) for case in traces()]
         passed.append(goes_on(program, folder))
         passed += as_nobody(program, folder)
     return report_cases("messages", passed)

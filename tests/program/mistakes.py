@@ -17,7 +17,7 @@ from typing import NamedTuple
 
 import paths  # noqa: F401
 
-from command import TOP, new_folder, program_of
+from command import TOP, new_folder, program_of, said
 
 WANTED, NAMED = 60, 50
 
@@ -64,7 +64,7 @@ def said_of(program: str, mistake: Mistake, folder: pathlib.Path, pipeline: str)
     (folder / mistake.file).write_text(mistake.text)
     run = subprocess.run([program, "check", pipeline], cwd=folder, capture_output=True, text=True, timeout=60)
     (folder / mistake.file).write_text(kept)
-    return run.returncode, run.stderr
+    return run.returncode, said("", run.stderr)[1]
 
 
 def main() -> int:
@@ -84,16 +84,16 @@ def main() -> int:
             folder = outer / file.parent.name
             target = rng.choice([file.name, *(it.name for it in folder.glob("*.dpv"))])
             mistake = make(target, (folder / target).read_text(), rng)
-            status, said = said_of(program, mistake, folder, file.name) if mistake else (0, "")
-            if mistake is None or status != 3 or "File" in said:
+            status, message = said_of(program, mistake, folder, file.name) if mistake else (0, "")
+            if mistake is None or status != 3 or "File" in message:
                 continue
             tried += 1
-            is_named = f"at: {mistake.file}:" in said and (mistake.now in said or mistake.was in said)
-            is_placed = f"at: {mistake.file}:" in said
+            is_named = f"at: {mistake.file}:" in message and (mistake.now in message or mistake.was in message)
+            is_placed = f"at: {mistake.file}:" in message
             named += is_named
             unnamed += not is_placed
             if shows or not is_placed:
-                print(f"{file.parent.name}/{mistake.file}:{mistake.line}: {mistake.was} became {mistake.now}:\n{said}", end="")
+                print(f"{file.parent.name}/{mistake.file}:{mistake.line}: {mistake.was} became {mistake.now}:\n{message}", end="")
     print(f"mistakes: {tried} mistakes, {tried - unnamed} messages name file and line, {named} the word")
     return 0 if unnamed == 0 and named >= NAMED else 1
 

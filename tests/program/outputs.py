@@ -21,7 +21,8 @@ from typing import NamedTuple
 
 import paths  # noqa: F401
 
-from command import STRIP, asked, nested_folder, report_cases
+import command
+from command import STRIP, asked, nested_folder, new_folder, report_cases, saying
 
 HEADER = struct.pack("<IHHIIII", 0xA1B2C3D4, 2, 4, 0, 0, 262144, 1)
 FORWARD = "tx p0,r0,drop\nexit\ndrop: free p0\nexit\n"
@@ -159,6 +160,11 @@ def empty_ends() -> list[Case]:
     ]
 
 
+def worded(text: str) -> str:
+    """What is said of a text that the program printed or reported."""
+    return command.said(text)[0]
+
+
 def is_kept(program: str, case: Case, folder: pathlib.Path, must_be_alone: bool) -> bool:
     """Whether a run is refused as the case says, each file keeps its contents, and no file is new."""
     (folder / "case.toml").write_text(case.text)
@@ -167,10 +173,11 @@ def is_kept(program: str, case: Case, folder: pathlib.Path, must_be_alone: bool)
     after = held(folder)
     new = set(after) - set(before)
     lost = [name for name, data in before.items() if after.get(name) != data]
-    said = run.stderr == case.said if must_be_alone else run.stderr.startswith(case.said)
+    reported = worded(run.stderr)
+    said = reported == case.said if must_be_alone else reported.startswith(case.said)
     passed = run.returncode == 3 and said and not lost and not new
     if not passed:
-        print(f"outputs: {case.said!r}: status {run.returncode}, {run.stderr!r}; lost: {lost}, new: {sorted(new)}")
+        print(f"outputs: {case.said!r}: status {run.returncode}, {reported!r}; lost: {lost}, new: {sorted(new)}")
     for name in set(after) - set(before):
         (folder / name).unlink()
     return passed
@@ -211,8 +218,8 @@ def is_unshared(program: str, case: Shared, folder: pathlib.Path) -> bool:
     (folder / "old.pcap").write_bytes(OLD)
     command = ["sh", "-c", f'"$@" {case.streams}', "sh", program, *case.words]
     run = subprocess.run(command, cwd=folder, stdin=subprocess.DEVNULL, capture_output=True, text=True, timeout=60)
-    now = (folder / "old.pcap").read_bytes()
-    passed = (run.returncode, run.stdout, run.stderr, now) == (3, "", case.said, case.old)
+    now = worded((folder / "old.pcap").read_text("latin-1")).encode("latin-1")
+    passed = (run.returncode, run.stdout, worded(run.stderr), now) == (3, "", case.said, case.old)
     if not passed:
         print(f"outputs: {case.words} {case.streams}: status {run.returncode}, {run.stderr!r}, {len(now)} bytes: {now[len(OLD):][:200]!r}")
     (folder / "old.pcap").write_bytes(OLD)
@@ -229,7 +236,7 @@ def linked(program: str, folder: pathlib.Path) -> list[bool]:
         run = subprocess.run([program, "run", "case.toml"], cwd=folder, capture_output=True, text=True, timeout=60)
         said = f"fault: file {second}\n  file: {first}\n  because: {WRITTEN}\n"
         is_left = (folder / "new.pcap").exists()
-        answers.append((run.returncode, run.stderr, is_left) == (3, said, False))
+        answers.append((run.returncode, worded(run.stderr), is_left) == (3, said, False))
         if not answers[-1]:
             print(f"outputs: {first}, {second}: status {run.returncode}, {run.stderr!r}, new.pcap is left: {is_left}")
         for name in ("alias.pcap", "folder/alias.pcap", "new.pcap"):
@@ -267,7 +274,7 @@ def sealed(program: str, folder: pathlib.Path) -> bool:
     said = f"fault: output 0\n  file: {name}\n  because: Operation not permitted (os error 1)\n"
     now = os.pread(file, 2 * len(OLD), 0)
     os.close(file)
-    passed = (run.returncode, run.stderr, now) == (3, said, OLD)
+    passed = (run.returncode, worded(run.stderr), now) == (3, said, OLD)
     if not passed:
         print(f"outputs: sealed: status {run.returncode}, {run.stderr!r}, {len(now)} bytes: {now[:100]!r}")
     return passed
@@ -288,8 +295,8 @@ def writes(program: str, folder: pathlib.Path) -> list[bool]:
 
 def main() -> int:
     """All of it."""
-    program = asked()
-    with nested_folder() as folder:
+    with nested_folder() as folder, new_folder() as kept:
+        program = saying(asked(), kept)
         make_files(folder, program)
         passed = [is_kept(program, case, folder, True) for case in clashes()]
         passed += [is_unshared(program, case, folder) for case in shared()]

@@ -2,8 +2,8 @@
 """Runs the built program dpv while its surroundings change: streams are closed, files disappear, signals arrive.
 
 Usage: tests/program/outside.py [PROGRAM]   (by default the one that ./dpv builds and runs; some seconds)
-The input is a pipe that is fed in two halves, so that what happens between them happens in the middle of a run. The file on disk is always
-a prefix of the capture that a whole run writes. Prints a line for each case, and exits with 1 if one failed.
+The program runs below what says its documents, as dpv starts it. The input is a pipe that is fed in two halves, so that what happens between
+them happens in the middle of a run. The file on disk is always a prefix of the capture that a whole run writes. Prints a line for each case, and exits with 1 if one failed.
 """
 import itertools
 import os
@@ -18,7 +18,7 @@ from collections.abc import Callable
 
 import paths  # noqa: F401
 
-from command import STRIP, asked, fixed, new_folder
+from command import STRIP, asked, fixed, new_folder, saying
 from model import captures
 
 REPORT = "port 0 received {0} nobuf 0 oversize 0 sent {0} input whole\npool 0 free 64 of 64\ncalls {0} refused 0\n"
@@ -170,6 +170,21 @@ def closed_pipe(tried: Tried) -> bool:
     return (run.returncode, run.stderr.decode()) == (3, UNWRITTEN) and tried.output.read_bytes() == target()
 
 
+def on_full(stream: str) -> Callable[[Tried], bool]:
+    """A run with a note whose report, or note, cannot be written: the other one is, and the status says it."""
+
+    def case(tried: Tried) -> bool:
+        tried.pipe.unlink()
+        tried.pipe.write_bytes(source()[:-1])
+        run = subprocess.run(["sh", "-c", f'"$@" {stream}/dev/full', "sh", *tried.words()], capture_output=True, text=True, timeout=60)
+        end = len(source()) - 76
+        printed = REPORT.format(COUNT - 1).replace("whole", f"cut {end}") if stream == "2>" else ""
+        reported = f"port 0: its input ends within the record at byte {end}, which is not read\n{UNWRITTEN}" if stream == ">" else ""
+        return (run.returncode, run.stdout, run.stderr) == (3, printed, reported)
+
+    return case
+
+
 def left_pipe(tried: Tried) -> bool:
     """The output is a pipe whose reader ends in the middle: it got a prefix of the capture, and the fault is printed after the report."""
     tried.pipe.unlink()
@@ -211,6 +226,8 @@ CASES: dict[str, Callable[[Tried], bool]] = {
     },
     "no standard input, which is read": nothing_to_read,
     "closed pipe": closed_pipe,
+    "full standard output": on_full(">"),
+    "full standard error": on_full("2>"),
     "output whose reader goes away": left_pipe,
     "read-only folder": read_only,
 }
@@ -227,9 +244,10 @@ def main() -> int:
     if shutil.which("tcpdump") is None:
         print("captures that end in the middle: NOT READ by tcpdump, which is not installed")
     for name, case in CASES.items():
-        with new_folder() as folder:
+        with new_folder() as folder, new_folder() as kept:
             folder.chmod(0o755)
-            passed.append(case(Tried(program, folder)))
+            # (another user may not read what says the documents)
+            passed.append(case(Tried(program if case is read_only else saying(program, kept), folder)))
         print(f"{name}: {'as it has to be' if passed[-1] else 'FAILED'}")
     return 0 if all(passed) else 1
 

@@ -21,7 +21,7 @@ import tomllib
 
 import paths  # noqa: F401
 
-from command import TOP, asked, new_folder
+from command import TOP, asked, new_folder, saying
 
 EXAMPLES = TOP / "examples"
 DOT = shutil.which("dot")
@@ -219,6 +219,13 @@ def faults(folder: pathlib.Path) -> list[tuple[list[str], int, str]]:
         "null.json": '{"counts": {"nodes": [{"node": "port 0", "instructions": [{"label": 0, "ran": 1}]}]}}',
         "ran.json": '{"counts": {"nodes": [{"node": "port 0", "instructions": [{"label": 0, "ran": -1, "taken": null}]}]}}',
         "taken.json": '{"counts": {"nodes": [{"node": "port 0", "instructions": [{"label": 0, "ran": 1, "taken": 2}]}]}}',
+        "root.json": "[]",
+        "nodes.json": '{"counts": {"nodes": [null]}}',
+        "true.json": '{"counts": {"nodes": [{"node": "port 0", "instructions": [{"label": false, "ran": 1, "taken": null}]}]}}',
+        "minus.json": '{"counts": {"nodes": [{"node": "port 0", "instructions": [{"label": -0, "ran": 1, "taken": null}]}]}}',
+        "great.json": '{"counts": {"nodes": [{"node": "port 0", "instructions": [{"label": 0, "ran": 18446744073709551616, "taken": null}]}]}}',
+        "long_digits.json": f'{{"counts": {{"nodes": [{{"node": "port 0", "instructions": [{{"label": 0, "ran": {"9" * 300}, "taken": null}}]}}]}}}}',
+        "digits.json": '{"counts": {"nodes": [{"node": "port 0", "instructions": [{"label": 0, "ran": "07", "taken": "8"}]}]}}',
         "plus.json": '{"counts": {"nodes": [{"node": "port 0", "instructions": [{"label": 0, "ran": "+5", "taken": null}]}]}}',
     }
     for name, text in texts.items():
@@ -237,6 +244,11 @@ def faults(folder: pathlib.Path) -> list[tuple[list[str], int, str]]:
         "label.json": "counts.nodes[1].instructions[1].label is not the number of the instruction, from 0",
         "ran.json": f"counts.nodes[0].instructions[0].ran is not {number}",
         "plus.json": f"counts.nodes[0].instructions[0].ran is not {number}",
+        "root.json": "counts is not an object",
+        "nodes.json": "counts.nodes[0].node is not a text",
+        **dict.fromkeys(("true.json", "minus.json"), "counts.nodes[0].instructions[0].label is not the number of the instruction, from 0"),
+        **dict.fromkeys(("great.json", "long_digits.json"), f"counts.nodes[0].instructions[0].ran is not {number}"),
+        "digits.json": "counts.nodes[0].instructions[0].taken is not at most ran",
         "null.json": "counts.nodes[0].instructions[0].taken is not a number, its digits as a text, or null",
         "taken.json": "counts.nodes[0].instructions[0].taken is not at most ran",
     }
@@ -260,6 +272,9 @@ def faults(folder: pathlib.Path) -> list[tuple[list[str], int, str]]:
         (["show", "ttl.dpv", "--dot"], 2, "error: ttl.dpv is a program, and no pipeline file: dpv show-one ttl.dpv prints it\n"),
         (["show", "ttl.dpv"], 2, "error: ttl.dpv is a program, and no pipeline file: dpv show-one ttl.dpv prints it\n"),
         (["check", "ttl.toml", "--json", "--sizes"], 2, "error: --sizes is printed as text alone: leave out --json, or --sizes\n"),
+        # (a file of counts is read before the pipeline)
+        (["show", "none.toml", "port0", "--dot", "--counts", str(folder / "list.json")], 3,
+         f"fault: file {folder / 'list.json'}\n  because: counts.nodes is not a list\n  help: {give}\n"),
         ([*show, "port10"], 2, "error: 'port10' names no node: port or ring, and one digit\n"),
     ]
 
@@ -369,9 +384,9 @@ def is_page(program: str) -> bool:
 
 def main() -> int:
     """All pictures."""
-    program = asked()
     files = sorted(file for file in EXAMPLES.glob("*/*.toml") if file.parent.name != "refused")
     with new_folder() as folder:
+        program = saying(asked(), folder)
         passed = [is_example(program, file, folder) for file in files]
         passed += [is_red(program, number) for number in range(2, 12)]
         passed += [is_refused(program, *case) for case in faults(folder)]

@@ -5,9 +5,9 @@ Usage: tests/program/pipes.py [PROGRAM]   (the built program; by default the one
 First, live runs with -U: a record is written to a pipe, and what the program makes of it is read, while the next record has not come. Then
 `-` as the capture to read and to write: the capture alone is on standard output, the report on standard error, and a file that the shell
 has opened keeps what it had. Then runs with --in, --out, --no-in and --no-out, each beside the run of a pipeline file that was edited to the
-same; and runs with --routes beside one of a pipeline file that has those routes. Then words that give no captures or routes, ports and tables
-that the pipeline does not have, outputs that are a file which the run reads, and which fault is the first. Prints a line for each case that
-failed, and a count; exits with 1 if a case failed.
+same, and runs of eight ports, of which some write elsewhere; and runs with --routes beside one of a pipeline file that has those routes. Then
+words that give no captures or routes, ports and tables that the pipeline does not have, outputs that are a file which the run reads, and which
+fault is the first. Prints a line for each case that failed, and a count; exits with 1 if a case failed.
 """
 import os
 import pathlib
@@ -23,8 +23,9 @@ from typing import NamedTuple
 
 import paths  # noqa: F401
 
-from command import MULTICAST, STRIP, TOP, asked, new_folder, report_cases
+from command import MULTICAST, STRIP, TOP, asked, new_folder, report_cases, said, saying
 from model import captures
+from program import written
 
 READ = "the run reads this file, so it is not overwritten"
 WRITTEN = "another port writes this file, too"
@@ -153,6 +154,11 @@ def same_unbuffered(tried: Tried) -> bool:
     return came("unbuffered", (again.returncode, again.stdout, again.stderr, after), (0, plain.stdout, plain.stderr, files))
 
 
+def reported_by(run: "subprocess.CompletedProcess[bytes]") -> str:
+    """What is said of what a run reported."""
+    return said("", run.stderr.decode())[1]
+
+
 def left_pipe(tried: Tried) -> bool:
     """Nobody reads standard output any more: the fault names it."""
     reader, writer = os.pipe()
@@ -160,7 +166,7 @@ def left_pipe(tried: Tried) -> bool:
     words = [tried.program, "one", "-U", "strip.dpv", "strip.cert", "in.pcap", "-"]
     run = subprocess.run(words, cwd=tried.folder, stdout=writer, stderr=subprocess.PIPE, timeout=60, check=False)
     os.close(writer)
-    reported = run.stderr.decode().splitlines()[-3:]
+    reported = reported_by(run).splitlines()[-3:]
     return came("left pipe", (run.returncode, reported[0], reported[1]), (3, "fault: output 0", "  file: -"))
 
 
@@ -241,7 +247,7 @@ def closed(tried: Tried) -> bool:
     """Standard input that is closed has no header; standard output that is closed takes nothing."""
     empty = tried.by_shell(*ONE, "-", "made.pcap", suffix="<&-")
     full = tried.by_shell(*ONE, "in.pcap", "-", suffix=">&-")
-    got = [(run.returncode, [line for line in run.stderr.decode().splitlines() if line.startswith(("fault", "  file"))]) for run in (empty, full)]
+    got = [(run.returncode, [line for line in reported_by(run).splitlines() if line.startswith(("fault", "  file"))]) for run in (empty, full)]
     return came("closed streams", got, [(3, ["fault: input 0 cause 6", "  file: -"]), (3, ["fault: output 0", "  file: -"])])
 
 
@@ -252,7 +258,7 @@ def stream_clash(words: tuple[str, ...], suffix: str, output: str, other: str) -
         held = tried.data("in.pcap")
         run = tried.by_shell(*words, suffix=suffix)
         reported = f"fault: file {output}\n  file: {other}\n  because: {READ}\n"
-        return came(f"{words} {suffix}", (run.returncode, run.stdout, run.stderr.decode(), tried.data("in.pcap")), (3, b"", reported, held))
+        return came(f"{words} {suffix}", (run.returncode, run.stdout, reported_by(run), tried.data("in.pcap")), (3, b"", reported, held))
 
     return case
 
@@ -344,6 +350,47 @@ def not_opened(tried: Tried) -> bool:
     return came("not opened", (run.returncode, run.stderr, tried.data("new.pcap")), (0, b"", EMPTY))
 
 
+# Words of the run of a pipeline of eight ports, each of which reads one record and writes a file of its own; and the ports that write elsewhere, with the
+# file in which the record then is, - for standard output, and None for nowhere.
+PLACED: list[tuple[list[str], dict[int, str | None]]] = [
+    ([], {}),
+    (["--out", "0=in.pcap"], {0: "in.pcap"}), (["--out", "7=a=b"], {7: "a=b"}), (["--out", "3=="], {3: "="}), (["--out", "1=-"], {1: "-"}), (["--out", "1=--"], {1: "--"}),
+    (["--out", "2= -"], {2: " -"}), (["--out", "4=/dev/null"], {4: None}), (["--out", "5=\u00e9"], {5: "\u00e9"}),
+    (["--no-out", "0"], {0: None}), (["--no-out", "3"], {3: None}), (["--no-out", "7"], {7: None}),
+    (["--out", "1=a", "--out", "0=b", "--no-out", "7", "--no-out", "2"], {1: "a", 0: "b", 7: None, 2: None}),
+    (["--out", "1=-", "--out", "0=/dev/stdin", "--no-out", "2", "--no-out", "3"], {1: "-", 0: "stdin", 2: None, 3: None}),
+]
+# The words of such runs that end with a fault, and what is reported.
+UNPLACED = [
+    (["--in", "4=/dev/null"], "fault: input 4 cause 6\n  file: /dev/null\n  because: fewer than the 24 bytes of a header\n"),
+    (["--out", "1=a", "--out", "0=a", "--no-out", "7", "--no-out", "2"], f"fault: file a\n  file: a\n  because: {WRITTEN}\n"),
+]
+EIGHT = "region = 262144\n[[pool]]\ncount = 64\ncache = 0\nroom = 2176\n" + "".join(
+    f'[[port]]\npool = 0\nsegs = 1\nqueue = 4\nnode = "back.dpv"\nin = "eight{port}.pcap"\nout = "own{port}"\n' for port in range(8))
+
+
+def placed(tried: Tried) -> bool:
+    """Each word gives its port the file, stream or nothing that it names, and no other port anything."""
+    records = [captures.written(False, [(port, 0, bytes([port]) * 20)]) for port in range(8)]
+    texts = {"eight.toml": EIGHT.encode(), "back.dpv": b"tx p0,r0,d\nexit\nd: free p0\nexit\n", **{f"eight{port}.pcap": data for port, data in enumerate(records)}}
+    for name, data in texts.items():
+        (tried.folder / name).write_bytes(data)
+    passed = True
+    for words, ports in PLACED:
+        with open(tried.folder / "stdin", "w+b") as given:
+            run = tried.run("run", "eight.toml", *words, stdin=given)
+        held = {file.name: file.read_bytes() for file in tried.folder.iterdir() if file.name not in texts} | {"-": run.stdout}
+        got = {port: name for name, data in held.items() for port, record in enumerate(records) if data == record}
+        wanted = {port: name for port, name in ({port: f"own{port}" for port in range(8)} | ports).items() if name is not None}
+        passed &= came(" ".join(words), (run.returncode, got), (0, wanted))
+        for name in wanted.values():
+            (tried.folder / name).unlink(missing_ok=True)
+    for words, said in UNPLACED:
+        run = tried.run("run", "eight.toml", *words)
+        passed &= came(" ".join(words), (run.returncode, run.stderr.decode()), (3, said))
+    return passed
+
+
 # ---- routes that are given
 
 ROUTER = TOP / "examples/router"
@@ -394,7 +441,7 @@ def given_routes(tried: Tried) -> bool:
         passed &= came(f"{routes} {words}", routed(tried, "case.toml", words), wanted)
     run = tried.run("run", "router.toml", "--routes", "0=rest.txt", "--out", "1=./rest.txt")
     reported = f"fault: file ./rest.txt\n  file: rest.txt\n  because: {READ}\n"
-    return came("routes kept", (run.returncode, run.stdout, run.stderr.decode()), (3, b"", reported)) and passed
+    return came("routes kept", (run.returncode, run.stdout, reported_by(run)), (3, b"", reported)) and passed
 
 
 # ---- faults
@@ -416,9 +463,13 @@ def usage(text: str) -> str:
 def forms() -> list[Fault]:
     """Words that do not have their form."""
     named = ["", "0", "=", "0=", "=a", "8=a", "9=a", "00=a", "x=a", "-1=a", " 0=a", "port0=a", "0 =a", "0:a", "٠=a", "10=a", "/=a", ":=a"]
-    bare = ["", "8", "00", "x", "port0", "0=", "0=a", " 0", "10", "/", ":"]
-    faults = [Fault([f"{option}={word}"], 2, usage(f"'{word}' is not PORT=NAME: {IN_WORDS}")) for option in ("--in", "--out") for word in named if word]
-    faults += [Fault([f"{option}={word}"], 2, usage(f"'{word}' is not a port: a digit from 0 to 7")) for option in ("--no-in", "--no-out") for word in bare if word]
+    bare = ["", "8", "9", "00", "x", "port0", "0=", "0=a", " 0", "10", "/", ":"]
+
+    def given(option: str, word: str) -> list[str]:
+        return [f"{option}={word}"] if word else [option, word]
+
+    faults = [Fault(given(option, word), 2, usage(f"'{word}' is not PORT=NAME: {IN_WORDS}")) for option in ("--in", "--out") for word in named]
+    faults += [Fault(given(option, word), 2, usage(f"'{word}' is not a port: a digit from 0 to 7")) for option in ("--no-in", "--no-out") for word in bare]
     tables = ["0", "=", "0=", "=a", "4=a", "9=a", "00=a", "x=a", "-1=a", " 0=a", "table0=a", "0 =a", "0:a", "٠=a", "10=a", "/=a", "[[table]]"]
     return faults + [Fault([f"--routes={word}"], 2, usage(f"'{word}' is not TABLE=FILE: {TABLE_WORDS}")) for word in tables]
 
@@ -436,7 +487,15 @@ def twice() -> list[Fault]:
         faults += [Fault(words, 2, usage(f"'{word}' gives port {port} another {kind} than '{other}': {one}")) for words, word, port, other in pairs]
         faults.append(Fault([f"--{way}", "0=-", f"--{way}", "1=-"], 2, usage(f"'0=-' and '1=-' both {stream}: one port alone can")))
         faults.append(Fault([f"--{way}=1=-", f"--{way}=2=x", f"--{way}=0=-"], 2, usage(f"'1=-' and '0=-' both {stream}: one port alone can")))
-    return faults
+    # Of several words at fault the first counts; those of --no-out come after all of --out.
+    one, form = "one --out or --no-out for each port", f"'8=a' is not PORT=NAME: {IN_WORDS}"
+    words: list[tuple[list[str], list[str], str]] = [
+        (["1=a", "0=b", "1=a"], ["x"], f"'1=a' gives port 1 another output than '1=a': {one}"), (["0=b", "8=a", "0=c"], [], form),
+        (["0=b"], ["1", "0"], f"'0' gives port 0 another output than '0=b': {one}"), ([], ["9"], "'9' is not a port: a digit from 0 to 7"),
+        (["3=-", "4=-"], [], "'3=-' and '4=-' both write standard output: one port alone can"),
+        (["2=a", "3=-", "2=-"], [], f"'2=-' gives port 2 another output than '2=a': {one}"),
+    ]
+    return faults + [Fault([it for word in named for it in ("--out", word)] + [it for word in bare for it in ("--no-out", word)], 2, usage(said)) for named, bare, said in words]
 
 
 def missing() -> list[Fault]:
@@ -498,7 +557,7 @@ def is_reported(tried: Tried, fault: Fault) -> bool:
     kept_all = all(after.get(name) == data for name, data in before.items())
     for name in set(after) - set(before):
         (tried.folder / name).unlink()
-    return came(" ".join(fault.words), (run.returncode, report, run.stderr.decode(), kept_all), (fault.status, b"", fault.reported, True))
+    return came(" ".join(fault.words), (run.returncode, report, reported_by(run), kept_all), (fault.status, b"", fault.reported, True))
 
 
 def not_loaded(tried: Tried) -> bool:
@@ -518,14 +577,30 @@ TRIED: list[Callable[[Tried], bool]] = [
     stream_clash((*ONE, "in.pcap", "-"), ">> in.pcap", "-", "in.pcap"),
     stream_clash((*ONE, "-", "in.pcap"), "< in.pcap", "in.pcap", "-"),
     stream_clash((*ONE, "-", "-"), "< in.pcap >> in.pcap", "-", "-"),
-    named_dash, given_streams, not_opened, given_routes, not_loaded,
+    named_dash, given_streams, not_opened, placed, given_routes, not_loaded,
 ]
 
 
-def main() -> int:
-    """All of it."""
-    program = asked()
-    passed = []
+# Words of a command that writes a capture, and whether it goes to standard output.
+WRITES = [
+    ("run a.toml --out 0=-", True), ("run --out=0=- a.toml", True), ("run a.toml --out 0=a --out 1=-", True), ("run a.toml --no-in 1 -U --out 7=-", True),
+    ("run a.toml --in 0=-", False), ("run a.toml --out 0=a=-", False), ("run a.toml --in --out --out 0=-", True), ("run -- a.toml --out=0=-", False),
+    ("run a.toml --refuse --out=0=-", False), ("run --in=0=- a.toml", False), ("run a.toml --routes 0=- --out 0=b", False), ("run 0=-", False),
+    ("one a b c -", True), ("one a b - c", False), ("one - - - c", False), ("one --json a b c -U - --counts", True), ("one -- a b c -", True),
+    ("one a -- b c -", True), ("one a b c", False), ("one a b c d -", False), ("filter a b -", True), ("filter a - b", False), ("filter - - -", True),
+    ("filter --name - a b c", False), ("filter --name=- a b -", True), ("filter --room 200 a - b", False), ("filter a b --segs 2 -", True),
+    ("filter -- --name a -", True), ("filter --name -- a b -", True), ("filter a b c --name -", False), ("check a.toml -", False), ("", False),
+]
+
+
+def knows_stdout() -> list[bool]:
+    """Whether dpv knows by the words whether a capture goes to standard output."""
+    return [came(words, "-" in written(words.split()), wanted) for words, wanted in WRITES]
+
+
+def passed_by(program: str) -> list[bool]:
+    """Whether each case went as it should."""
+    passed = knows_stdout()
     for case in TRIED:
         with new_folder() as folder:
             passed.append(case(Tried(program, folder)))
@@ -535,7 +610,13 @@ def main() -> int:
     with new_folder() as folder:
         tried = Tried(program, folder)
         passed += [is_reported(tried, fault) for fault in forms() + twice() + missing() + clashes() + first_faults()]
-    return report_cases("pipes", passed)
+    return passed
+
+
+def main() -> int:
+    """All of it."""
+    with new_folder() as kept:
+        return report_cases("pipes", passed_by(saying(asked(), kept)))
 
 
 if __name__ == "__main__":

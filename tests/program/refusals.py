@@ -6,8 +6,10 @@ examples/refused has for each rule a program that breaks it, jN.dpv, and dpv's e
 else of the program by itself, with the certificate jN.cert if there is one. Its cure, cured/jN.dpv, has to be accepted; without a cure the
 program itself has to be, with the inferred certificate. docs/users/refusals.md has to contain these programs, explanations and cures. Then
 programs of the language pkt in pipelines that do not fit them: the help is about their source or the pipeline, and with it they are accepted.
+At last documents of reasons to which no program of a test leads, in words.
 Prints a line for each rule and program that failed, and a count; exits with 1 if one failed.
 """
+import json
 import pathlib
 import subprocess
 import sys
@@ -15,6 +17,7 @@ from typing import NamedTuple
 
 import paths  # noqa: F401
 
+import command
 from command import TOP, asked, new_folder
 
 FOLDER = TOP / "examples" / "refused"
@@ -36,6 +39,49 @@ class Unfit(NamedTuple):
     cured: str
     cured_keys: dict[str, int]
 
+
+PARTS = ("share", "head", "tail", "first", "last", "segs")
+
+
+class Reason(NamedTuple):
+    """A reason as the program prints it: whether the certificate was given, the rule, and the members; and what is known, wanted and helps."""
+
+    given: bool
+    rule: int
+    members: dict[str, object]
+    known: str
+    wanted: str
+    help: str
+
+
+def fact(*numbers: int) -> dict[str, int]:
+    """What is known of a packet register, as the program prints it."""
+    return dict(zip(PARTS, numbers, strict=True))
+
+
+LOOP = "test or bound it again before control goes there, or leave the loop with what it began with"
+INFER, ROW = "let dpv infer write the certificate", "let dpv infer write the certificate, or test for more before it"
+FREE = "free p7 before control goes there, or let this path end with exit: another path arrives with p7 empty"
+REASONS = (
+    Reason(True, 1, {"case": "row_count", "known": 3, "wanted": 6}, "3 rows", "6 rows", INFER),
+    Reason(True, 2, {"case": "no_entry"}, "no such port or ring", "a port or ring of the environment", "name a port or ring that is there"),
+    Reason(True, 2, {"case": "row_dead"}, "control comes there", "that control never comes there", INFER),
+    Reason(False, 2, {"case": "row_number", "known": str(2 ** 64 - 1), "register": 3, "wanted": 0}, f"r3 <= {2 ** 64 - 1}", "r3 <= 0", INFER),
+    Reason(False, 11, {"case": "row_number", "known": 9, "register": 3, "to": 1, "wanted": 8}, "r3 <= 9", "at 1, b: r3 <= 8", LOOP),
+    Reason(False, 11, {"case": "row_dead", "to": 2}, "control comes there", "at 2: that control never comes there", LOOP),
+    Reason(False, 11, {"case": "row_group", "group": 0, "known": fact(8, 1, 2, 3, 4, 64), "packet": 1, "to": 9, "wanted": None},
+           "p1 in group p0, headroom 1, tailroom 2, first 3, last 4, at most 64 segments", "at 9: p1 empty", LOOP),
+    Reason(True, 11, {"case": "row_group", "group": 7, "known": None, "packet": 7, "to": 0, "wanted": fact(15, 0, 0, 0, 0, 1)},
+           "p7 empty", "at 0: p7 in group p7, at most 1 segment", ROW),
+    Reason(False, 11, {"case": "row_packet", "known": fact(0, 0, 0, 0, 0, 2), "packet": 7, "to": 0, "wanted": None},
+           "p7 loose, at most 2 segments", "at 0: p7 empty", FREE),
+    Reason(True, 11, {"case": "row_packet", "known": fact(1, 0, 0, 0, 10, 2), "packet": 7, "to": 0, "wanted": None},
+           "p7 head sole, last 10, at most 2 segments", "at 0: p7 empty", ROW),
+    Reason(False, 6, {"case": "too_little", "count": 1, "known": 0, "packet": 2, "part": "tail", "start": str(2 ** 64 - 1)},
+           "p2 tailroom 0", f"p2 tailroom {2 ** 64 - 1} + 1", f"bound the index before it by jlt or and: it can be {2 ** 64 - 1}"),
+    Reason(False, 8, {"case": "too_long", "known": 64, "more": 1, "other": 0, "packet": 1},
+           "p1 at most 64 segments, p0 at most 1 segment", "at most 64 together", "let the port or ring take packets of fewer segments"),
+)
 
 USUAL = {"room": 2176, "share": 2, "head": 128, "first": 0, "segs": 1}
 LENGTH, WRITES = "given length 34\nif eth.type == 5 { drop }\nsend 0\n", "eth.type = 5\nsend 0\n"
@@ -89,7 +135,20 @@ def words_for(rule: int, folder: pathlib.Path, certs: bool) -> list[str]:
 def said(program: str, words: list[str], folder: pathlib.Path) -> tuple[int, str]:
     """The status, and what was printed on both streams, one after the other."""
     run = subprocess.run([program, *words], cwd=folder, capture_output=True, text=True, timeout=60)
-    return run.returncode, run.stdout + run.stderr
+    return run.returncode, "".join(command.said(run.stdout, run.stderr))
+
+
+def is_worded(case: Reason) -> bool:
+    """Whether a document of this reason has these words."""
+    at = {"given": case.given, "label": 2, "rule": case.rule}
+    why = {"file": "x.dpv", "reason": case.members, "segs": 1, "text": "exit\n\nb: exit # again\n c : # on\n"}
+    line = json.dumps({"view": "refusal", "node": "port 0", "refused": at, "why": why}, separators=(",", ":"))
+    words = command.said(f"{line}\n")[0].splitlines()
+    passed = words[0] == "x.dpv:0: " and words[1].startswith(f"  J{case.rule}: ")
+    passed = passed and words[2:] == [f"  known:  {case.known}", f"  wanted: {case.wanted}", f"  help:   {case.help}"]
+    if not passed:
+        print(f"{case.members}: said {words}")
+    return passed
 
 
 def is_explained(program: str, rule: int) -> bool:
@@ -128,7 +187,8 @@ def main() -> int:
     passed = [is_explained(program, rule) and is_cured(program, rule) and is_in_docs(rule, docs) for rule in RULES]
     with new_folder() as folder:
         passed += [is_helped(program, case, folder) for case in UNFIT]
-    print(f"refusals: {sum(passed)} rules and programs are as they should be, {len(passed) - sum(passed)} are not")
+    passed += [is_worded(case) for case in REASONS]
+    print(f"refusals: {sum(passed)} rules, programs and reasons are as they should be, {len(passed) - sum(passed)} are not")
     return 0 if all(passed) else 1
 
 

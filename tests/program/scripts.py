@@ -10,7 +10,7 @@ import sys
 
 import paths  # noqa: F401
 
-from command import asked, new_folder, report_cases
+from command import asked, new_folder, report_cases, said
 
 # what helps with a line that is no command
 COMMANDS = (
@@ -27,21 +27,6 @@ PRINTED = [
     ("region 4096|malloc 100 0", "1 data 3968 element 3904 + 192"),
     ("region 04096|malloc 0100 00", "1 data 3968 element 3904 + 192"),
     (
-        "region 4096|malloc 100 0|malloc 64 1024|list|free 1|free 2|list",
-        "1 data 3968 element 3904 + 192|2 data 3072 element 3008 + 128|FREE 0 + 3008|BUSY 3008 + 128 pad 0|FREE 3136 + 768|"
-        "BUSY 3904 + 192 pad 0|freed 1|freed 2|FREE 0 + 4096",
-    ),
-    (
-        "region 4096|malloc 100 0|malloc 64 1024|free 2|free 1|list",
-        "1 data 3968 element 3904 + 192|2 data 3072 element 3008 + 128|freed 2|freed 1|FREE 0 + 4096",
-    ),
-    ("region 4096|malloc 3840 64|list", "1 data 256 element 192 + 3904|FREE 0 + 192|BUSY 192 + 3904 pad 0"),
-    ("region 4096|malloc 3904 0|list", "1 data 192 element 0 + 4096|BUSY 0 + 4096 pad 128"),
-    ("region 4096|malloc 3904 0|free 1|list", "1 data 192 element 0 + 4096|freed 1|FREE 0 + 4096"),
-    ("region 4096|malloc 192 256", "1 data 3840 element 3776 + 320"),
-    ("region 4096|malloc 128 256", "1 data 3840 element 3776 + 320"),
-    ("region 4096|malloc 64 256|list", "1 data 3840 element 3776 + 128|FREE 0 + 3776|BUSY 3776 + 128 pad 0|FREE 3904 + 192"),
-    (
         "region 4096|malloc 0 96|malloc 64 96|malloc 4033 0|list|malloc 4032 0",
         "refused 1 ZeroSize|refused 2 BadAlign|refused 3 NoRoom|FREE 0 + 4096|1 data 64 element 0 + 4096",
     ),
@@ -51,6 +36,42 @@ PRINTED = [
         "region 4096|malloc 64 0|malloc 64 0|malloc 64 0|free 2|stats|malloc 64 256|malloc 64 0",
         "1 data 4032 element 3968 + 128|2 data 3904 element 3840 + 128|3 data 3776 element 3712 + 128|freed 2|"
         "free 2 bytes 3840 busy 2 bytes 256|4 data 3584 element 3520 + 192|5 data 3904 element 3840 + 128",
+    ),
+    # one block, with the elements while it is held and when it is freed
+    ("region 4096|malloc 100 0|list|free 1|list", "1 data 3968 element 3904 + 192|FREE 0 + 3904|BUSY 3904 + 192 pad 0|freed 1|FREE 0 + 4096"),
+    ("region 4096|malloc 3840 64|list|free 1|list", "1 data 256 element 192 + 3904|FREE 0 + 192|BUSY 192 + 3904 pad 0|freed 1|FREE 0 + 4096"),
+    ("region 4096|malloc 3904 0|list|free 1|list", "1 data 192 element 0 + 4096|BUSY 0 + 4096 pad 128|freed 1|FREE 0 + 4096"),
+    ("region 4096|malloc 192 256|list|free 1|list", "1 data 3840 element 3776 + 320|FREE 0 + 3776|BUSY 3776 + 320 pad 0|freed 1|FREE 0 + 4096"),
+    ("region 4096|malloc 4032 0|list|free 1|list", "1 data 64 element 0 + 4096|BUSY 0 + 4096 pad 0|freed 1|FREE 0 + 4096"),
+    ("region 4096|malloc 128 256|list|free 1|list", "1 data 3840 element 3776 + 320|FREE 0 + 3776|BUSY 3776 + 320 pad 0|freed 1|FREE 0 + 4096"),
+    (
+        "region 4096|malloc 64 256|list|free 1|list",
+        "1 data 3840 element 3776 + 128|FREE 0 + 3776|BUSY 3776 + 128 pad 0|FREE 3904 + 192|freed 1|FREE 0 + 4096",
+    ),
+    # a block in the middle is freed last, and joined with both of its neighbours
+    (
+        "region 4096|malloc 64 0|malloc 128 512|malloc 256 0|malloc 256 0|list|free 3|free 2|list|free 4|free 1|list|zmalloc 4032 0",
+        "1 data 4032 element 3968 + 128|2 data 3584 element 3520 + 192|3 data 3264 element 3200 + 320|4 data 2944 element 2880 + 320|FREE 0 + 2880|"
+        "BUSY 2880 + 320 pad 0|BUSY 3200 + 320 pad 0|BUSY 3520 + 192 pad 0|FREE 3712 + 256|BUSY 3968 + 128 pad 0|freed 3|freed 2|FREE 0 + 2880|"
+        "BUSY 2880 + 320 pad 0|FREE 3200 + 768|BUSY 3968 + 128 pad 0|freed 4|freed 1|FREE 0 + 4096|5 data 64 element 0 + 4096",
+    ),
+    # a small block is taken from a small element, and one that fits in none of those from the next list that has room
+    (
+        "region 4096|malloc 64 0|malloc 64 0|malloc 64 0|free 2|malloc 64 256|malloc 64 0|list|free 1|free 3|free 4|free 5|list",
+        "1 data 4032 element 3968 + 128|2 data 3904 element 3840 + 128|3 data 3776 element 3712 + 128|freed 2|4 data 3584 element 3520 + 192|"
+        "5 data 3904 element 3840 + 128|FREE 0 + 3520|BUSY 3520 + 192 pad 0|BUSY 3712 + 128 pad 0|BUSY 3840 + 128 pad 0|BUSY 3968 + 128 pad 0|"
+        "freed 1|freed 3|freed 4|freed 5|FREE 0 + 4096",
+    ),
+    # two blocks, of which either is freed first
+    (
+        "region 4096|malloc 100 0|stats|malloc 64 1024|list|free 1|free 2|list",
+        "1 data 3968 element 3904 + 192|free 1 bytes 3904 busy 1 bytes 192|2 data 3072 element 3008 + 128|FREE 0 + 3008|BUSY 3008 + 128 pad 0|"
+        "FREE 3136 + 768|BUSY 3904 + 192 pad 0|freed 1|freed 2|FREE 0 + 4096",
+    ),
+    (
+        "region 4096|malloc 100 0|stats|malloc 64 1024|list|free 2|free 1|list",
+        "1 data 3968 element 3904 + 192|free 1 bytes 3904 busy 1 bytes 192|2 data 3072 element 3008 + 128|FREE 0 + 3008|BUSY 3008 + 128 pad 0|"
+        "FREE 3136 + 768|BUSY 3904 + 192 pad 0|freed 2|freed 1|FREE 0 + 4096",
     ),
     ("region 4096|zmalloc 100 0|stats", "1 data 3968 element 3904 + 192|free 1 bytes 3904 busy 1 bytes 192"),
     ("region 4096|malloc 4032 0|free 1|zmalloc 4032 0|free 2|stats", "1 data 64 element 0 + 4096|freed 1|2 data 64 element 0 + 4096|freed 2|free 1 bytes 4096 busy 0 bytes 0"),
@@ -122,7 +143,7 @@ def main() -> int:
         for script, wanted in cases():
             (folder / "script").write_bytes(script)
             done = subprocess.run([program, "mem", "script"], cwd=folder, capture_output=True, timeout=60)
-            ended = done.returncode, done.stdout, done.stderr
+            ended = done.returncode, done.stdout, said("", done.stderr.decode())[1].encode()
             passed.append(ended == wanted)
             if not passed[-1]:
                 print(f"{script!r} ended with {ended!r}, and not with {wanted!r}")

@@ -41,7 +41,7 @@ def outputs(program: str, commands: list[str]) -> list[str]:
         shutil.copytree(TOP / "examples", folder / "examples")
         (folder / "bin").mkdir()
         dpv = folder / "bin" / "dpv"
-        dpv.write_text(f'#!/bin/sh\nprogram="{program}" pkt="{TOP}/tools/pkt" compiled_nodes="{TOP}/tools/compiled_nodes.py" version= commit=\n. "{TOP}/tools/launch"\nlaunch "$@"\n')
+        dpv.write_text(f'#!/bin/sh\nprogram="{program}" pkt="{TOP}/tools/pkt" compiled_nodes="{TOP}/tools/compiled_nodes.py" views="{TOP}/tools/views" version= commit=\n. "{TOP}/tools/launch"\nlaunch "$@"\n')
         dpv.chmod(0o755)
         path = f"{folder / 'bin'}:{os.environ['PATH']}"
         script = "".join(script_of(command) + "printf '\\1'\n" for command in commands)

@@ -38,7 +38,7 @@ from typing import Any, NamedTuple, Self, TypeVar
 import paths  # noqa: F401
 
 from cases import MAKERS, Case, Family
-from command import fixed, program_of, put_library
+from command import fixed, program_of, put_library, said
 from json_output import document, says
 from model import answers, machine
 
@@ -157,7 +157,7 @@ class Place:
             os.kill(child, signal.SIGKILL)
             _, status, used = os.wait4(child, 0)
         signal.setitimer(signal.ITIMER_REAL, 0)
-        printed, reported = (os.pread(stream, os.fstat(stream).st_size, 0).decode(errors="replace") for stream in self.streams)
+        printed, reported = said(*(os.pread(stream, os.fstat(stream).st_size, 0).decode(errors="replace") for stream in self.streams))
         return Ended(os.waitstatus_to_exitcode(status), printed, reported, {}, used.ru_utime + used.ru_stime, used.ru_maxrss)
 
     def taken(self) -> dict[str, bytes]:
@@ -282,9 +282,10 @@ def runs_as_trace(place: Place, case: Case, ended: Ended) -> str | None:
     """What is wrong if a trace of all records of a run that went well does not add up to what the run reported."""
     words = [word for word in case.words[1:] if word != "--counts"]
     doc, shown = document(place.run(["run", *words, "--json"]).printed.encode()), place.run(["trace", *words, "--records", "1000"])
-    turns, ports = Counter(re.findall("^turn ([a-z]+) runs", shown.printed, re.M)), doc["ports"]
-    sent = sum(int(number) for number in re.findall("^port [0-7] sends ([0-9]+)$", shown.printed, re.M))
-    calls = re.findall("^ +allocation call ([0-9]+): (made|refused)$", shown.printed, re.M)
+    text, _ = said(shown.printed)
+    turns, ports = Counter(re.findall("^turn ([a-z]+) runs", text, re.M)), doc["ports"]
+    sent = sum(int(number) for number in re.findall("^port [0-7] sends ([0-9]+)$", text, re.M))
+    calls = re.findall("^ +allocation call ([0-9]+): (made|refused)$", text, re.M)
     refused = sum(it["nobuf"] for it in ports) + sum(it["refused"] for it in doc["pools"])
     adds_up = all(turns[kind] == sum(it[kind] for it in ports) for kind in ("received", "nobuf", "oversize"))
     adds_up = adds_up and sent == sum(it["sent"] for it in ports) and [number for number, _ in calls] == [str(k + 1) for k in range(doc["calls"])]

@@ -20,6 +20,7 @@ import paths  # noqa: F401
 
 import compiled
 import compiled_nodes
+import engines
 from command import TOP, new_folder, program_of
 from fuzz import Dice, Maker
 from model.programs import assemble
@@ -58,6 +59,12 @@ def does_ttl(program: str, made: str) -> bool:
         return all(compiled.does_the_same(program, made, folder / "ttl/ttl.toml", compiled.GAIN))
 
 
+def plays_scripts(made: str) -> bool:
+    """Whether the program does what the scripts of tests/program/engines.py say."""
+    with new_folder() as folder:
+        return all(engines.hold(engines.played(made, folder, is_compiled=True)))
+
+
 def limit_of(asked: argparse.Namespace) -> list[str]:
     """How long tests/random/fuzz.py goes on: 100,000 cases if nothing is said."""
     return ["--seconds", str(asked.seconds)] if asked.seconds else ["--cases", str(asked.cases or 100_000)]
@@ -77,8 +84,9 @@ def main() -> int:
     families = in_gate(asked.seed, asked.families) if asked.gate else asked.families
     program, nodes = program_of(asked.program), texts(asked.seed, families)
     if asked.gate:
-        made = with_machine_code(program, [*nodes, (TTL / "ttl.dpv").read_bytes()], str(TOP / "tests/library/over_gate.py"))
-        if not does_ttl(program, made):
+        known = [(TTL / "ttl.dpv").read_bytes(), *(it.encode() for it in engines.MACHINE_CODE)]
+        made = with_machine_code(program, [*nodes, *known], str(TOP / "tests/library/over_gate.py"))
+        if not does_ttl(program, made) or not plays_scripts(made):
             return 1
     else:
         made = with_machine_code(program, nodes)

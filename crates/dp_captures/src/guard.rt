@@ -16,6 +16,12 @@ use std::fs::{self, OpenFile};
 use std::io::{ErrorKind, Read, Write};
 use std::rt::Files;
 
+/// Where what is printed goes in the end, if tools/views writes it on: it leaves its own standard output open under this number.
+const FIRST_OUT: &str = "/dev/fd/98";
+
+/// Where what is reported goes in the end.
+const FIRST_ERR: &str = "/dev/fd/99";
+
 /// What a file of a run is.
 #[derive(Clone, Copy)]
 pub enum Target<'a> {
@@ -120,12 +126,12 @@ pub fn files_of_run<'a, R: Files>(
     requires { length inputs.now ≤ length names.now }
     ensures { IfOk result (λ kept. spec.AreFilesOf reads.now inputs.now kept.items) }
 {
-    let err = target_of(plain_file(rt, "/dev/stderr")?);
+    let err = target_of(plain_file(rt, FIRST_ERR)?.or(plain_file(rt, "/dev/stderr")?));
     // If an output is standard output, texts go to standard error.
     let out = if take_stdout(names) {
         Target::Other
     } else {
-        target_of(plain_file(rt, "/dev/stdout")?)
+        target_of(plain_file(rt, FIRST_OUT)?.or(plain_file(rt, "/dev/stdout")?))
     };
     let mut kept = Vec::new(alloc);
     keep_reads(&mut kept, reads)?;

@@ -19,7 +19,7 @@ mod output_file;
 mod watched;
 mod words;
 
-pub use faults::{CaptureFault, CaptureProblem, CaptureReason, Format, reason_of_input};
+pub use faults::{CaptureFault, CaptureProblem, CaptureReason, reason_of_input};
 pub use file_id::{FileId, ReadFile, note_read};
 pub use guarded::Guarded;
 pub use input_file::InputFile;

@@ -2,7 +2,6 @@
 
 ghost use Rattle.std.specs.Prelude.{◌≡◌, ◌∷◌, []};
 
-use crate::faults::{Format, format_of};
 use dp_pcap::{Feed, OfBufReader, Offers, WholeRecords, link_type};
 use std::io::{Error, ErrorKind, Read, Result, Stderr, Write};
 
@@ -43,14 +42,32 @@ impl Progress {
 }
 
 /// What was seen of a file that is read as a capture, besides its bytes.
-#[derive(Clone, Copy, Default)]
+#[derive(Clone, Copy)]
 pub struct Seen {
     /// The error with which its last read failed.
     pub failure: Option<Error>,
-    /// The format as which it begins, if a command makes captures of that.
-    pub format: Option<Format>,
+    /// The bytes with which the first read begins; 255 where it has fewer.
+    pub front: [u8; 6],
     /// The field of the link type in its header, if the first read has the whole header of a capture.
     pub link: Option<u32>,
+}
+
+impl Seen {
+    /// Nothing was seen yet.
+    pub const NOTHING: Seen = Seen {
+        failure: None,
+        front: [255; 6],
+        link: None,
+    };
+}
+
+/// The first six of these bytes; 255 for those that are not there.
+fn front_of(bytes: &[u8]) -> [u8; 6] {
+    let mut front = [255; 6];
+    for (kept, byte) in front.iter_mut().zip(bytes) {
+        *kept = *byte;
+    }
+    front
 }
 
 /// A reader that keeps the error of a failed read, and what its first bytes show. It counts the records that it passes on, and reports progress.
@@ -73,7 +90,7 @@ impl<R: Read> Watched<R> {
         Watched {
             inner,
             is_begun: false,
-            seen: Seen::default(),
+            seen: Seen::NOTHING,
             progress,
             of: Offers::new().and(name.as_bytes()),
         }
@@ -97,7 +114,7 @@ impl<R: Read> Watched<R> {
     {
         if !self.is_begun {
             self.is_begun = true;
-            self.seen.format = format_of(bytes);
+            self.seen.front = front_of(bytes);
             self.seen.link = link_type(bytes);
             self.progress.records = WholeRecords::of_capture(bytes);
         }

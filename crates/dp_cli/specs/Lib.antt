@@ -1,3 +1,4 @@
 pub mod Commands
 pub mod Runs
+pub mod Sizes
 pub mod Stops

@@ -5,13 +5,13 @@ ghost use Rattle.clap.specs.Matches.{found_of};
 ghost use Rattle.dp_sources.specs.Subjects.{env_of};
 ghost use Rattle.dp_cli.specs.Commands.{EndsCheck, EndsInfer, EndsInferOne};
 
-use dp_console::{DONE, Reply};
+use crate::showing::{counted_in, show};
+use crate::sizes::say_sizes;
+use dp_console::{DONE, Reply, Text};
 use dp_load::{How, PipeError, Pipeline};
 use dp_model::{Entry, Env};
-use dp_request::{
-    Request, load_pipeline, node_in, read_about, read_file, read_nodes, read_pipeline,
-};
-use dp_show::{Counted, Form, counts_in, say_sizes, show};
+use dp_request::{Request, load_pipeline, node_in, read_about, read_nodes, read_pipeline};
+use dp_runs::both;
 use dp_sources::{Asked, Subject, one_env};
 use dp_verdict::{check_text, explain, infer, infer_one, say_costs};
 use std::rt::Files;
@@ -32,7 +32,7 @@ fn say_more<R>(
             say_costs(alloc, pipeline, &mut *reply);
         }
         if request.flag("sizes") {
-            say_sizes(pipeline.env(), pipeline.region(), &mut reply.out);
+            say_sizes(alloc, pipeline.env(), pipeline.region(), &mut reply.out);
         }
     }
 }
@@ -119,26 +119,11 @@ fn show_problem(is_node: bool, is_counted: bool, is_dot: bool) -> Option<&'stati
     }
 }
 
-/// The form of a picture, or of a listing without `--dot`.
-fn form_of<'a, R>(request: &Request<'_, '_, R>, counts: Option<Counted<'a>>) -> Form<'a> {
-    let all = request.flag("calls");
-    if request.flag("dot") {
-        Form::Picture { all, counts }
-    } else {
-        Form::Listing
-    }
-}
-
-/// Shows a node's program with the counts of a file, or the picture of a pipeline.
-fn shown_in<R: Files>(
-    request: &Request<'_, '_, R>,
-    which: Option<Entry>,
-    counts: Option<Counted<'_>>,
-) -> Result<Reply, Reply> {
+/// Shows a node's program, or a pipeline.
+fn shown_in<R: Files>(request: &Request<'_, '_, R>, which: Option<Entry>) -> Result<Reply, Reply> {
     let about = read_about(request)?;
     let sources = read_nodes(request, about.subject(), which, How::Given)?;
-    let form = form_of(request, counts);
-    Ok(show(request.alloc, about.subject(), &sources, which, form))
+    Ok(show(request, about.subject(), &sources, which))
 }
 
 /// `dpv show FILE [WHICH]` and `dpv show-one NODE [CERT]`.
@@ -148,7 +133,7 @@ pub fn shown<R: Files>(request: &Request<'_, '_, R>) -> Result<Reply, Reply> {
         return Err(request.wrong("error: --calls is for a picture: add --dot, or leave it out"));
     }
     if request.words.get_str("NODE").is_some() {
-        return shown_in(request, Some(Entry::Port(0)), None);
+        return shown_in(request, Some(Entry::Port(0)));
     }
     let (which, file) = (which_in(request)?, request.word("FILE"));
     if which.is_none() && file.ends_with(".dpv") {
@@ -160,13 +145,13 @@ pub fn shown<R: Files>(request: &Request<'_, '_, R>) -> Result<Reply, Reply> {
         return Err(request.wrong(problem));
     }
     let (Some(node), Some(file)) = (which, counts) else {
-        return shown_in(request, which, None);
+        return shown_in(request, which);
     };
-    let source = read_file(request, file)?;
-    let steps = counts_in(request.alloc, &source, node)?;
-    let counted = Counted {
-        file,
-        steps: steps.as_slice(),
-    };
-    shown_in(request, which, Some(counted))
+    let counted = counted_in(request, file, node)?;
+    match shown_in(request, which) {
+        Ok(reply) | Err(reply) => Ok(Reply {
+            out: both(counted, &reply.out),
+            ..reply
+        }),
+    }
 }

@@ -12,21 +12,19 @@ ghost use Rattle.dp_region.specs.Region.{IsRegionSize};
 ghost use Rattle.dp_request.specs.Operands.{calls_in, option_within, words_of};
 
 use dp_captures::{
-    BUFFER, CaptureFault, CaptureNames, CaptureProblem, CaptureReason, Direction, InputOf,
-    OutputOf, ReadFile, Replaced, Replacements, UNBUFFERED, WordProblem, captures_of, names_of,
-    note_read, open_captures, remove_empty_outputs,
+    BUFFER, CaptureFault, CaptureNames, CaptureReason, Direction, InputOf, OutputOf, ReadFile,
+    Replaced, Replacements, UNBUFFERED, WordProblem, captures_of, names_of, note_read,
+    open_captures, remove_empty_outputs,
 };
 use dp_console::{Reply, Text};
-use dp_counts::{Counting, Notes, NumbersFrom, ProgramText, Wanted};
+use dp_counts::{Counting, ProgramText, Wanted};
 use dp_engine::{CompiledPrograms, Nothing, need};
 use dp_load::{How, NodeName, Pipeline, SingleFiles, load_single};
 use dp_model::{Entry, Env, MAX_ROOM, MAX_SEGMENTS, MIN_PORT_ROOM, PoolSpec, PortSpec};
 use dp_region::{CACHE_LINE, MAX_REGION, MIN_REGION};
 use dp_request::{Given, Loaded, Request, load_pipeline, number_in, numbers_in, read_nodes};
-use dp_runs::{Printing, Watcher, both, problem_of_run, reply_of, run_over};
-use dp_sources::{
-    Because, Fault, FaultReason, Lent, ONE_REGION, Sources, Subject, folder_with, one_env,
-};
+use dp_runs::{Notes, Printing, Watcher, both, problem_of_run, reply_of, run_over, say_problem};
+use dp_sources::{Fault, Lent, ONE_REGION, Sources, Subject, folder_with, one_env};
 use dp_verdict::{failed, no_node, unloaded};
 use std::alloc::{AllocError, Global};
 use std::io::{ErrorKind, Read};
@@ -121,26 +119,16 @@ pub fn unopened<R: Files>(request: &Request<'_, '_, R>, fault: CaptureFault<'_>)
     let CaptureFault::File { name, problem } = fault else {
         return request.without_memory();
     };
-    let (mut words, mut help) = (Text::new(alloc), Text::new(alloc));
-    words.say(problem.reason);
-    let reason = FaultReason::Words(words.words());
+    let mut folder = None;
     if let CaptureReason::System(error) = problem.reason
         && error.kind() == ErrorKind::NotFound
         && let Some(file) = request.words.get_str("FILE")
-        && let Some(folder) = folder_with(request.rt, alloc, file, name)
     {
-        help.say(format_args!("run dpv in {folder}"));
+        folder = folder_with(request.rt, alloc, file, name);
     }
-    let help = match help.words() {
-        line if !line.is_empty() && !help.has_failed => Some(line),
-        _ => problem.reason.cure(),
-    };
-    let because = Because {
-        file: problem.file,
-        reason,
-        help,
-    };
-    failed(alloc, Fault::File(name, because), request.flag("json"))
+    let mut reply = failed(alloc, Fault::File(name), request.flag("json"));
+    say_problem(alloc, problem, folder, &mut reply.err);
+    reply
 }
 
 /// The text of a node's program. It is called by `--name`, if that is given, and else as its file.
@@ -237,14 +225,11 @@ fn run_opened<K: CompiledPrograms, R: Files>(
     let (env, region) = (pipeline.env().copy(), u64::from(pipeline.region()));
     let ran = run_over::<K, _, _>(request.alloc, pipeline, inputs, outputs, pattern, watcher);
     let notes = Notes {
+        is_in_file: request.name == "run",
+        is_in_options: request.name == "filter",
         region,
         needed: need(&env),
         truncated: truncated_in(inputs),
-        origin: match request.name {
-            "run" => NumbersFrom::File,
-            "one" => NumbersFrom::Fixed,
-            _ => NumbersFrom::Options,
-        },
     };
     let problem = problem_of_run(names, inputs, &ran);
     remove_empty_outputs(request.rt, request.alloc, names, outputs);

@@ -6,16 +6,14 @@ ghost use Rattle.dp_engine.specs.Engines.{IsAscending};
 
 use crate::running::{program_of, refused_in, unopened};
 use dp_captures::{CaptureNames, CaptureProblem, Replacements, names_of, open_inputs};
-use dp_console::{DONE, FAULT, Reply, Text};
+use dp_console::{Document, FAULT, Item, Reply, Text};
 use dp_engine::Nothing;
-use dp_lang::listing_of;
-use dp_load::{How, Pipeline, SingleFiles, load, load_single};
+use dp_load::{How, NodeName, Pipeline, SingleFiles, load, load_single};
 use dp_model::Entry;
 use dp_pipe::{MAX_RUN_TURNS, RunCause, Traced};
 use dp_request::{About, Request, number_in, port_in, read_about, read_nodes};
 use dp_runs::{Printed, TracedRun, problem_of, say_stop, trace_records};
 use dp_sources::{Lent, ONE_REGION, Sources, Subject, one_env};
-use dp_trace::{NamedLabel, NodeTexts, Picked, Shown, only_in, pattern_in, say_end};
 use dp_verdict::{no_node, unloaded};
 use std::alloc::{AllocError, Global};
 use std::io::Write;
@@ -35,14 +33,12 @@ pub fn records_in(word: &str) -> Option<u32>
     }
 }
 
-/// Which records the words select to be traced, and to be printed, but for `--instr`. If they select some, all are traced, and else 10.
-fn asked_in<R>(request: &Request<'_, '_, R>) -> Result<(Traced, Picked<'static>), Reply>
-    ensures { IfOk result (λ asked. asked.0.records ≤ MAX_RUN_TURNS) }
+/// Which records the words select to be traced. If they select some to be printed, all are traced, and else 10.
+fn asked_in<R>(request: &Request<'_, '_, R>) -> Result<Traced, Reply>
+    ensures { IfOk result (λ asked. asked.records ≤ MAX_RUN_TURNS) }
 {
     let records = records_in(request.word("records"));
     let port = port_in(request.word("port"));
-    let only = only_in(request.word("only"), records_in(request.word("only")));
-    let pattern = pattern_in(request.word("match"));
     for (name, is_read, form) in [
         (
             "records",
@@ -50,16 +46,6 @@ fn asked_in<R>(request: &Request<'_, '_, R>) -> Result<(Traced, Picked<'static>)
             "not a number of records: from 1 to 134217728",
         ),
         ("port", port.is_some(), "not a port: a number from 0 to 7"),
-        (
-            "only",
-            only.is_some(),
-            "none of sent, freed, refused and cut, and no number of a record",
-        ),
-        (
-            "match",
-            pattern.is_some(),
-            "neither an address A.B.C.D nor BYTES@OFFSET, as 0800@12",
-        ),
     ] {
         if let Some(word) = request.words.get_str(name)
             && !is_read
@@ -67,96 +53,98 @@ fn asked_in<R>(request: &Request<'_, '_, R>) -> Result<(Traced, Picked<'static>)
             return Err(request.wrong(format_args!("error: '{word}' is {form}")));
         }
     }
-    let is_picked = only.is_some() || pattern.is_some() || request.words.get_str("instr").is_some();
+    let is_picked = ["instr", "match", "only"]
+        .iter()
+        .any(|name| request.words.get_str(name).is_some());
     let usual = if is_picked { MAX_RUN_TURNS as u32 } else { 10 };
     let records = records.unwrap_or(usual);
-    let (at, which) = (None, Traced { records, port });
-    Ok((which, Picked { only, at, pattern }))
+    Ok(Traced { records, port })
 }
 
-/// A program as in its source.
-fn texts_of<'a>(alloc: Global, text: &'a [u8]) -> Result<NodeTexts<'a>, AllocError> {
-    let (mut texts, mut labels) = (Vec::new(alloc), Vec::new(alloc));
-    for listed in listing_of(alloc, text)?.as_slice() {
-        let label = u16::try_from(texts.len()).unwrap_or(u16::MAX);
-        for name in listed.labels.as_slice() {
-            labels.push(NamedLabel { name: *name, label })?;
-        }
-        texts.push(listed.line.text)?;
+/// Prints a document at once, or returns the reply if it cannot be printed.
+fn print<R, O: Write>(
+    request: &Request<'_, '_, R>,
+    document: Document,
+    out: &mut O,
+) -> Result<(), Reply> {
+    let mut text = Text::new(request.alloc);
+    document.say_to(&mut text);
+    if text.has_failed {
+        return Err(request.without_memory());
     }
-    Ok(NodeTexts { texts, labels })
+    match out.write_all(text.bytes.as_slice()) {
+        Ok(()) => Ok(()),
+        Err(_) => Err(unprinted(request.alloc)),
+    }
 }
 
-/// The programs of a pipeline as in their sources.
-fn nodes_of<'a, 'w: 'a, R>(
-    request: &Request<'_, 'w, R>,
+/// The words on what is printed, as a document.
+fn words_of<R>(request: &Request<'_, '_, R>) -> Document {
+    let mut to = Document::new(request.alloc);
+    to.begin_object("");
+    to.item("view", Item::Text("trace"));
+    for name in ["instr", "match", "only"] {
+        let given = match request.words.get_str(name) {
+            Some(word) => Item::Text(word),
+            None => Item::Null,
+        };
+        to.item(name, given);
+    }
+    to.item("to_json", Item::Bool(request.flag("json")));
+    to.end_object();
+    to
+}
+
+/// The programs of a pipeline as in their sources, as a document.
+fn programs_of<R>(
+    request: &Request<'_, '_, R>,
     pipeline: &Pipeline,
-    subject: Subject<'a>,
-    sources: &'a Sources,
-) -> Result<Vec<NodeTexts<'a>>, AllocError> {
-    let mut nodes = Vec::new(request.alloc);
+    subject: Subject<'_>,
+    sources: &Sources,
+) -> Document {
+    let mut to = Document::new(request.alloc);
+    to.begin_object("");
+    to.item("view", Item::Text("programs"));
+    to.begin_list("programs");
     for k in 0..pipeline.nodes() {
         let program = program_of(request, pipeline.node(k).entry(), subject, sources);
-        nodes.push(texts_of(request.alloc, program.text)?)?;
+        let text = str::from_utf8(program.text).unwrap_or("");
+        to.begin_object("");
+        to.shown("node", NodeName(program.node));
+        to.item("text", Item::Text(text));
+        to.end_object();
     }
-    Ok(nodes)
+    to.end_list();
+    to.end_object();
+    to
 }
 
-/// The label that `--instr` means in each program, if it is given, or the reply if no program has it.
-fn labels_in<R>(
+/// The reply to a traced run that was printed, and had the memory that it needs: its last document, and the lines of a fault or the place of a note.
+fn said_of<R>(
     request: &Request<'_, '_, R>,
-    nodes: &[NodeTexts<'_>],
-) -> Result<Vec<Option<u16>>, Reply> {
-    let mut labels = Vec::new(request.alloc);
-    let Some(word) = request.words.get_str("instr") else {
-        return Ok(labels);
-    };
-    let mut is_found = false;
-    for node in nodes {
-        let label = match node.label(word) {
-            Some(label) if usize::from(label) < node.texts.len() => Some(label),
-            _ => None,
-        };
-        is_found = is_found || label.is_some();
-        if labels.push(label).is_err() {
-            return Err(request.without_memory());
-        }
-    }
-    if !is_found {
-        return Err(request.wrong(format_args!("error: no program has an instruction '{word}'")));
-    }
-    Ok(labels)
-}
-
-/// The reply to a traced run that was printed, and had the memory that it needs. In a document the line of a fault is the first that is reported.
-fn said_of(
-    alloc: Global,
     run: TracedRun,
     problem: Option<CaptureProblem<'_>>,
-    shown: Shown<'_>,
 ) -> Reply {
-    let (mut out, mut err) = (Text::new(alloc), Text::new(alloc));
-    let (picked, is_whole) = (shown.picked, run.answer.is_ok());
-    let is_selective = picked.only.is_some() || picked.at.is_some() || picked.pattern.is_some();
-    if let Err(cause) = run.answer {
-        say_stop(cause, problem, &mut err);
+    let (mut reply, mut last) = (Reply::new(request.alloc), Document::new(request.alloc));
+    reply.is_json = request.flag("json");
+    last.begin_object("");
+    last.item("view", Item::Text("traced"));
+    match run.answer {
+        Ok(()) => {
+            last.item("fault", Item::Null);
+            reply.err.say("{\"view\":\"selection\"}\n");
+        }
+        Err(cause) => {
+            say_stop(request.alloc, cause, problem, &mut reply.err);
+            let line = reply.err.words().lines().next().unwrap_or("");
+            let status = Item::Number(u64::from(FAULT));
+            last.object("fault", &[("status", status), ("text", Item::Text(line))]);
+            reply.status = FAULT;
+        }
     }
-    if shown.is_json {
-        let fault = match run.answer {
-            Ok(()) => None,
-            Err(_) => Some((FAULT, err.words().lines().next().unwrap_or(""))),
-        };
-        say_end(alloc, fault, run.shown, &mut out);
-    }
-    if is_whole && is_selective && run.shown == 0 {
-        err.say("note: no record of the trace was selected\n");
-    }
-    Reply {
-        status: if is_whole { DONE } else { FAULT },
-        out,
-        err,
-        is_json: shown.is_json,
-    }
+    last.end_object();
+    last.say_to(&mut reply.out);
+    reply
 }
 
 /// The captures that a trace reads: those of the pipeline, or the one for `dpv trace-one`.
@@ -187,7 +175,6 @@ fn trace_pipeline<R: Files, O: Write>(
     pipeline: Pipeline,
     pattern: Vec<u64>,
     which: Traced,
-    shown: Shown<'_>,
     out: &mut O,
 ) -> Result<Reply, Reply>
     requires pattern { IsAscending 0 pattern.items }
@@ -202,51 +189,16 @@ fn trace_pipeline<R: Files, O: Write>(
         return Err(unopened(request, fault));
     }
     let ins = inputs.as_mut_slice();
-    let run = trace_records::<Nothing, _, _>(alloc, pipeline, ins, pattern, which, shown, out);
+    let is_long = request.words.get_str("match").is_some();
+    let run = trace_records::<Nothing, _, _>(alloc, pipeline, ins, pattern, which, is_long, out);
     match (run.printed, run.answer) {
         (Printed::Failed, _) => Err(unprinted(alloc)),
         (Printed::NoMemory, _) | (_, Err(RunCause::Memory)) => Err(request.without_memory()),
         (Printed::Whole, Err(cause)) => {
-            Ok(said_of(alloc, run, problem_of(names, ins, cause, None), shown))
+            Ok(said_of(request, run, problem_of(names, ins, cause, None)))
         }
-        (Printed::Whole, Ok(())) => Ok(said_of(alloc, run, None, shown)),
+        (Printed::Whole, Ok(())) => Ok(said_of(request, run, None)),
     }
-}
-
-/// Traces a pipeline that is loaded, with its programs as in their sources.
-fn trace_loaded<R: Files, O: Write>(
-    request: &Request<'_, '_, R>,
-    pipeline: Pipeline,
-    subject: Subject<'_>,
-    sources: &Sources,
-    pattern: Vec<u64>,
-    which: Traced,
-    asked: Picked<'_>,
-    out: &mut O,
-) -> Result<Reply, Reply>
-    requires limit { which.records ≤ MAX_RUN_TURNS }
-    requires ascending { IsAscending 0 pattern.items }
-{
-    if let Some(port) = which.port
-        && usize::from(port) >= pipeline.ports()
-    {
-        return Err(no_node(request.alloc, Entry::Port(port)));
-    }
-    let Ok(nodes) = nodes_of(request, &pipeline, subject, sources) else {
-        return Err(request.without_memory());
-    };
-    let labels = labels_in(request, nodes.as_slice())?;
-    let at = if labels.is_empty() {
-        None
-    } else {
-        Some(labels.as_slice())
-    };
-    let shown = Shown {
-        sources: nodes.as_slice(),
-        picked: Picked { at, ..asked },
-        is_json: request.flag("json"),
-    };
-    trace_pipeline(request, pipeline, pattern, which, shown, out)
 }
 
 /// Loads what a trace is about, or returns the reply if it is not loaded.
@@ -277,18 +229,25 @@ fn load_about<R>(
     }
 }
 
-/// `dpv trace FILE` and `dpv trace-one NODE CERT IN`: prints the records as they end; the reply has the rest.
+/// `dpv trace FILE` and `dpv trace-one NODE CERT IN`: prints the words at once, the programs when they are loaded, and the records as they end; the
+/// reply has the rest.
 pub fn traced<R: Files, O: Write>(
     request: &Request<'_, '_, R>,
     out: &mut O,
 ) -> Result<Reply, Reply> {
-    let (which, asked) = asked_in(request)?;
+    let which = asked_in(request)?;
+    print(request, words_of(request), out)?;
     let pattern = refused_in(request)?;
     let about = read_about(request)?;
     let subject = about.subject();
     let sources = read_nodes(request, subject, None, How::Given)?;
     let pipeline = load_about(request, &about, &sources)?;
-    trace_loaded(
-        request, pipeline, subject, &sources, pattern, which, asked, out,
-    )
+    if let Some(port) = which.port
+        && usize::from(port) >= pipeline.ports()
+    {
+        return Err(no_node(request.alloc, Entry::Port(port)));
+    }
+    let programs = programs_of(request, &pipeline, subject, &sources);
+    print(request, programs, out)?;
+    trace_pipeline(request, pipeline, pattern, which, out)
 }

@@ -4,18 +4,17 @@
 //! instruction counts nothing: control comes to a label from the one before, unless an event says otherwise. So only the beginnings of node
 //! runs, taken jumps, ends and cuts are counted, and how often an instruction ran is their sum up to its label. An event takes no memory.
 //! `Counting` is the counts of a run with the sources of its programs. After the run, its `say` says the programs in the words of their source with
-//! their counts, and the sums for each table and ring; its `write` adds all of that to a JSON document, which `counts_of` reads. `lines_counted` sums by
-//! the lines of a source, of the language pkt where `dpv build` wrote the program; `drops` is where packets ended, and `named` the counts that have names.
-//! `Losses` is a watcher that counts only what was refused, `say_report` says the report of a run, and `Notes` what it lost.
+//! their counts, and the sums for each table and ring; its `write` adds the programs with their counts to a document. From that, tools/views/counts.py
+//! makes the counts of a document of `--json`, those by lines and by names, and the places where packets ended.
+//! `Losses` is a watcher that counts only what was refused, and `say_report` says the report of a run.
 //!
 //! Who owns what: the caller owns the `Counts` and lends them to the run; `Counting` borrows the texts of the programs. Only `new` takes memory, 560 kB.
 //!
 //! What not to assume: the texts of reports and of counts are exact. A number wraps at 2^64, which no run of captures reaches. `step` adds up from
-//! label 0 each time. A step that was cut counts as one that ran and not as a jump. `levels`, refusals, which line has which instruction, sums by
-//! lines, names, notes and documents are tested, not proved.
+//! label 0 each time. A step that was cut counts as one that ran and not as a jump. `levels`, refusals, which line has which instruction, and
+//! documents are tested, not proved.
 #![tactic(auto)]
 
-mod by_line;
 mod counting;
 mod counts;
 mod document;
@@ -23,20 +22,14 @@ mod laws;
 mod levels;
 mod listing;
 mod losses;
-mod notes;
-mod reader;
 mod report;
 mod source;
 
-pub use by_line::{DropCause, DropPlace, LineCounts, NamedCount, Origin};
-pub use counting::{Counting, Wanted, say_refusals};
+pub use counting::{Counting, Wanted};
 pub use counts::{Counts, StepCounts};
-pub use document::write_numbers;
 pub use laws::{counts_are_of_steps, counts_are_of_turns, counts_begin_at_zero};
 pub use levels::Levels;
 pub use listing::{Total, total_of};
 pub use losses::{Losses, Refusals};
-pub use notes::{Notes, NumbersFrom};
-pub use reader::{CountsError, ReadCount, counts_of};
 pub use report::{Totals, say_report};
 pub use source::{NodeSource, ProgramText, Role, SourceLine, Step};

@@ -1,6 +1,6 @@
 //! The source of a program, line by line, with the instruction of each line.
 
-use dp_lang::{AsmError, Program, SourceLine as Words, arguments_of, source_lines};
+use dp_lang::{AsmError, Program, arguments_of, source_lines};
 use dp_model::{Entry, Instr};
 use std::alloc::{AllocError, Global};
 
@@ -59,7 +59,7 @@ pub struct ProgramText<'a> {
     pub node: Entry,
     /// The name of its file.
     pub name: &'a str,
-    /// The contents of the file; for a document they must be UTF-8.
+    /// The contents of the file.
     pub text: &'a [u8],
 }
 
@@ -69,17 +69,7 @@ pub struct NodeSource<'a> {
     pub node: Entry,
     /// The name of the file.
     pub name: &'a str,
-    /// The name of the file that `dpv build` wrote the program from, if it did.
-    pub built: Option<&'a str>,
     pub lines: Vec<SourceLine<'a>>,
-    /// The instructions of its program.
-    pub instrs: Vec<Instr>,
-}
-
-/// The words of a line: its code and its comment.
-pub(crate) fn words_of(line: &[u8]) -> Words<'_> {
-    let text = std::str::from_utf8(line).unwrap_or("").trim();
-    Words { number: 0, text }
 }
 
 /// The lines of a program's text; `places` has the line of each instruction, from 1.
@@ -105,14 +95,6 @@ fn lines_of<'a>(
     Ok(lines)
 }
 
-/// The name of the file that a program was built from, if `dpv build` wrote it, as its first line says.
-fn built_from(text: &[u8]) -> Option<&str> {
-    let first = text.split(|byte| *byte == b'\n').next()?;
-    let words = words_of(first).comment()?.strip_prefix("Built from ")?;
-    let (name, _rest) = words.split_once(" by `dpv build`")?;
-    Some(name)
-}
-
 impl<'a> NodeSource<'a> {
     /// A program line by line, each line with its instruction.
     ///
@@ -130,13 +112,10 @@ impl<'a> NodeSource<'a> {
             Err(AsmError::Memory) => return Err(AllocError),
             Err(AsmError::Fault(_)) => Vec::new(alloc),
         };
-        let (instrs, built) = (own.instrs(), built_from(text));
         Ok(NodeSource {
             node,
             name,
-            built,
-            lines: lines_of(alloc, text, instrs, places.as_slice())?,
-            instrs: Vec::from_slice(alloc, instrs)?,
+            lines: lines_of(alloc, text, own.instrs(), places.as_slice())?,
         })
     }
 }

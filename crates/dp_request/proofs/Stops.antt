@@ -12,5 +12,5 @@ map_err (Err b) more p = more b p
 -- a fault has status 3 or 4
 pub fault_status : (f : Fault) (s : ℕ) → s ≡ status_of f → (s ≡ 3) ⊎ (s ≡ 4)
 fault_status fault.Memory s e = inr e
-fault_status (fault.File name because) s e = inl e
-fault_status (fault.Pipeline error file) s e = inl e
+fault_status (fault.File name) s e = inl e
+fault_status (fault.Pipeline error) s e = inl e

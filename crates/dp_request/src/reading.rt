@@ -3,19 +3,18 @@
 
 ghost use Rattle.std.specs.Prelude.{◌≡◌, ◌⊎◌, [], IfErr, IfOk, IfSome, None, Some, codes, find, map, nat_le, option_map};
 ghost use Rattle.clap.specs.Matches.{found_of};
-ghost use Rattle.dp_sources.specs.Faults as faults;
 ghost use Rattle.dp_request.specs.Operands.{IsFlag, operand, table_in, tables_from, word_of, words_of};
 ghost use Rattle.dp_request.specs.Reading.{HasNoConfig, HasWrongRoutes, IsFault, IsLoaded, IsNotLoaded, IsNotReady, NamesNone};
 
 use crate::operands::node_named;
 use clap::ArgMatches;
 use dp_captures::Streams;
-use dp_console::{MEMORY, Reply, Text, USAGE};
+use dp_console::{MEMORY, Reply, USAGE};
 use dp_load::{How, Pipeline, Survey, load, survey_of};
 use dp_model::{Entry, Env};
 use dp_sources::{
-    Because, Fault, FaultReason, Lent, RouteFile, Source, Sources, Subject, joined, one_env, read,
-    read_sources,
+    Fault, Lent, RouteFile, Source, Sources, Subject, joined, one_env, read, read_sources,
+    say_strange, say_unread,
 };
 use dp_verdict::{failed, misread, unloaded};
 use std::alloc::{AllocError, Global};
@@ -100,10 +99,12 @@ pub fn read_file<R: Files>(request: &Request<'_, '_, R>, name: &str) -> Result<S
     ensures { IfErr result IsFault }
 {
     let source = request.made(read(request.rt, request.alloc, name))?;
-    match source.unread() {
-        Some(file) => Err(failed(request.alloc, Fault::of_unread(file), request.flag("json"))),
-        None => Ok(source),
-    }
+    let Some(file) = source.unread() else {
+        return Ok(source);
+    };
+    let mut reply = failed(request.alloc, Fault::File(file.name), request.flag("json"));
+    say_unread(request.alloc, file, &mut reply.err);
+    Err(reply)
 }
 
 /// A word TABLE=FILE.
@@ -160,41 +161,18 @@ fn routes_named<'w, R>(request: &Request<'_, 'w, R>) -> Result<Vec<RoutesNamed<'
     }
 }
 
-/// The fault of a file with routes, with the words of its reason.
-fn fault_of<'a>(name: &'a str, words: &'a str) -> Fault<'a>
-    ensures { faults.status_of result ≡ 3 }
-{
-    let because = Because {
-        file: None,
-        reason: FaultReason::Words(words),
-        help: Some("each line is a route, A.B.C.D/DEPTH HOP, or begins with #"),
-    };
-    Fault::File(name, because)
-}
-
-/// What is wrong with a file of routes that begins with a byte-order mark.
-const MARKED: &str =
-    "it begins with a byte-order mark, which editors do not show: save it without one";
-
 /// The reply to a file whose routes are not all printable, if they are not.
+#[tactic(auto, using(crate::proofs::Stops::fault_status))]
 fn strange<R>(request: &Request<'_, '_, R>, file: &RouteFile) -> Option<Reply>
     ensures { IfSome result IsFault }
 {
-    let (alloc, is_json, name) = (
-        request.alloc,
-        request.flag("json"),
-        file.source.name.as_str(),
-    );
-    if !file.is_text() {
-        return Some(failed(alloc, fault_of(name, "it is not UTF-8"), is_json));
+    if file.is_fit() {
+        return None;
     }
-    if file.source.bytes.as_slice().starts_with(b"\xef\xbb\xbf") {
-        return Some(failed(alloc, fault_of(name, MARKED), is_json));
-    }
-    let number = file.strange_line()?;
-    let mut text = Text::new(alloc);
-    text.say(format_args!("line {number} has a character that is not printable ASCII"));
-    Some(failed(alloc, fault_of(name, text.words()), is_json))
+    let (alloc, name) = (request.alloc, file.source.name.as_str());
+    let mut reply = failed(alloc, Fault::File(name), request.flag("json"));
+    say_strange(alloc, file, &mut reply.err);
+    Some(reply)
 }
 
 /// Reads a file with routes.

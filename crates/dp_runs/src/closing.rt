@@ -9,7 +9,7 @@ ghost use Rattle.dp_runs.specs.Runs.{IsRun};
 
 use arrayvec::ArrayVec;
 use dp_captures::{
-    CaptureNames, CaptureProblem, CaptureReason, Incomplete, Inlet, Outlet, reason_of_input,
+    CaptureNames, CaptureProblem, CaptureReason, Incomplete, Inlet, Outlet, Seen, reason_of_input,
 };
 use dp_engine::{CompiledPrograms, PortReport, Report, Watch};
 use dp_load::Pipeline;
@@ -182,7 +182,7 @@ pub fn problem_of<'a, I: Inlet>(
     cause: RunCause,
     failure: Option<Error>,
 ) -> Option<CaptureProblem<'a>> {
-    let unknown = CaptureReason::Capture(PcapError::Write);
+    let unknown = CaptureReason::Capture(PcapError::Write, Seen::NOTHING);
     let (port, reason) = match cause {
         RunCause::In(k, error) => (k, reason_of_input(error, ins.get(usize::from(k)))),
         RunCause::Out(k) => (k, failure.map_or(unknown, CaptureReason::System)),

@@ -5,15 +5,19 @@ ghost use Rattle.dp_pipe.specs.Running.{answer_of};
 ghost use Rattle.dp_runs.specs.Replies as spec;
 ghost use Rattle.dp_runs.specs.Replies.{Reads};
 
+use crate::document::Notes;
 use crate::run::Ran;
-use dp_captures::CaptureProblem;
-use dp_console::{DONE, FAULT, MEMORY, Reply, Text};
-use dp_counts::{Counting, Notes, Totals, Wanted, say_refusals, say_report};
+use dp_captures::{CaptureProblem, CaptureReason, Seen};
+use dp_console::{DONE, Document, FAULT, Item, MEMORY, Reply, Text};
+use dp_counts::{Counting, Totals, Wanted, say_report};
 use dp_engine::Report;
 use dp_model::Env;
 use dp_pipe::{RunCause, RunFault};
 use std::alloc::Global;
 use std::fmt;
+
+/// The document of a run that ran out of memory.
+const NO_MEMORY: &str = "{\"fault\":{\"status\":4,\"text\":\"fault: memory\"}}\n";
 
 /// What is said of a run.
 #[derive(Clone, Copy)]
@@ -93,24 +97,63 @@ pub fn both(first: Text, more: &Text) -> Text
     text
 }
 
-/// Says what is wrong with the capture at which a run stopped.
-fn say_problem(problem: CaptureProblem<'_>, out: &mut Text) {
-    let CaptureProblem { file, reason } = problem;
-    if let Some(file) = file {
-        out.say(format_args!("  file: {file}\n"));
+/// Says what is wrong with a capture, as a document. `folder` is that of the pipeline file, if it has the capture.
+pub fn say_problem(
+    alloc: Global,
+    problem: CaptureProblem<'_>,
+    folder: Option<&str>,
+    out: &mut Text,
+) {
+    let (mut to, mut cause, mut seen) = (Document::new(alloc), 0, Seen::NOTHING);
+    let kind = match problem.reason {
+        CaptureReason::System(_) => "system",
+        CaptureReason::IsRead => "read",
+        CaptureReason::IsOutput => "output",
+        CaptureReason::IsStdout => "stdout",
+        CaptureReason::IsStderr => "stderr",
+        CaptureReason::Capture(error, at) => {
+            (cause, seen) = (error.number(), at);
+            "capture"
+        }
+    };
+    to.begin_object("");
+    to.item("view", Item::Text("capture"));
+    to.item("cause", Item::Number(u64::from(cause)));
+    if let Some(file) = problem.file {
+        to.item("file", Item::Text(file));
     }
-    out.say(format_args!("  because: {reason}\n"));
-    if let Some(cure) = reason.cure() {
-        out.say(format_args!("  help: {cure}\n"));
+    if let Some(folder) = folder {
+        to.item("folder", Item::Text(folder));
     }
+    to.begin_list("front");
+    for byte in seen.front {
+        to.item("", Item::Number(u64::from(byte)));
+    }
+    to.end_list();
+    to.item("kind", Item::Text(kind));
+    if let Some(link) = seen.link {
+        to.item("link", Item::Number(u64::from(link)));
+    }
+    match problem.reason {
+        CaptureReason::System(error) => to.shown("words", error),
+        CaptureReason::Capture(error, _) => to.shown("words", error),
+        _ => {}
+    }
+    to.end_object();
+    to.say_to(out);
 }
 
-/// Says why a run stopped: the line of its cause, and the lines on what was found at its capture.
-pub fn say_stop(cause: RunCause, problem: Option<CaptureProblem<'_>>, err: &mut Text) {
+/// Says why a run stopped: the line of its cause, and what was found at its capture.
+pub fn say_stop(
+    alloc: Global,
+    cause: RunCause,
+    problem: Option<CaptureProblem<'_>>,
+    err: &mut Text,
+) {
     err.say(StopText(cause));
     err.say("\n");
     if let Some(problem) = problem {
-        say_problem(problem, err);
+        say_problem(alloc, problem, None, err);
     }
 }
 
@@ -134,11 +177,15 @@ impl Printing<'_, '_> {
     fn main_of(&self, alloc: Global, ran: &Ran) -> Text
         ensures { self.now.is_json ≡ false → Reads result (spec.printed_text ran.now.flushed.answer) }
     {
+        let (mut text, report) = (Text::new(alloc), printed_of(&ran.flushed.answer));
         if self.is_json {
-            return self.document_of(alloc, ran);
+            match report {
+                Some(it) => self.say_facts(alloc, "run", ran, it, self.counting, &mut text),
+                None => text.say(NO_MEMORY),
+            }
+            return text;
         }
-        let mut text = Text::new(alloc);
-        if let Some(report) = printed_of(&ran.flushed.answer) {
+        if let Some(report) = report {
             say_report(report, &mut text);
         }
         text
@@ -146,23 +193,13 @@ impl Printing<'_, '_> {
 
     /// Says the counts of a run that are wanted, if there is a report.
     fn say_counts(&self, alloc: Global, ran: &Ran, out: &mut Text) {
-        let (wanted, report) = (self.wanted, printed_of(&ran.flushed.answer));
-        let (Some(counting), Some(report)) = (self.counting, report) else {
-            return;
-        };
-        if wanted.counts {
-            counting.say(self.env, out);
-            say_refusals("port", "full", ran.refusals.lists, out);
-            say_refusals("pool", "refused", ran.refusals.pools, out);
-        }
-        if wanted.lines {
-            counting.say_lines(alloc, out);
-        }
-        if wanted.counts || wanted.lines {
-            counting.say_named(alloc, out);
-        }
-        if wanted.drops {
-            counting.say_drops(alloc, report, out);
+        if let Some(counting) = self.counting
+            && let Some(report) = printed_of(&ran.flushed.answer)
+        {
+            if self.wanted.counts {
+                counting.say(self.env, out);
+            }
+            self.say_facts(alloc, "counts", ran, report, self.counting, out);
         }
     }
 
@@ -178,13 +215,15 @@ impl Printing<'_, '_> {
             totals.say(Totals(report.ports.as_slice()));
         }
         if let Some(found) = self.problem {
-            say_problem(found, &mut problem);
+            say_problem(alloc, found, None, &mut problem);
         }
         if !self.is_json {
             self.say_counts(alloc, ran, &mut counts);
         }
-        if let Some(known) = self.notes {
-            known.say(report, ran.refusals, self.env, &mut notes);
+        if let Some(known) = self.notes
+            && known.are_of_loss(report, ran.refusals)
+        {
+            self.say_facts(alloc, "losses", ran, report, None, &mut notes);
         }
         (totals, problem, counts, notes)
     }

@@ -10,7 +10,7 @@ use dp_load::Pipeline;
 use dp_model::Entry;
 use dp_pcap::{Feed, Time};
 use dp_pipe::{MAX_RUN_TURNS, RunCause, Traced, Tracer, trace};
-use dp_trace::{Record, Shown};
+use dp_trace::Record;
 use std::alloc::Global;
 use std::io::Write;
 use std::marker::Model;
@@ -20,36 +20,34 @@ use std::marker::Model;
 pub struct TracedRun {
     /// What stopped it, if anything did.
     pub answer: Result<(), RunCause>,
-    /// What became of its text.
+    /// What became of its lines.
     pub printed: Printed,
-    /// How many records were printed.
-    pub shown: u32,
 }
 
-/// What became of the text of a trace.
+/// What became of the lines of a trace.
 #[derive(Clone, Copy)]
 pub enum Printed {
-    /// It was written.
+    /// They were written.
     Whole,
-    /// Memory was refused for it.
+    /// Memory was refused for one.
     NoMemory,
     /// A write failed.
     Failed,
 }
 
-/// Prints the selected records of a traced run. After its first failure the writer is not called again.
+/// Prints the records of a traced run, a line for each. After its first failure the writer is not called again.
 ///
 /// Contracts see it as the number of the record.
 #[derive(Drop)]
-struct Printing<'a, W> {
+struct Printing<W> {
     out: W,
     /// The number of the record, from 1.
     records: u32,
-    record: Record<'a>,
-    run: TracedRun,
+    record: Record,
+    printed: Printed,
 }
 
-impl<'a, W> Model for Printing<'a, W> {
+impl<W> Model for Printing<W> {
     ghost use Rattle.std.specs.Prelude.{ℕ};
 
     ghost Value = { ℕ };
@@ -57,7 +55,7 @@ impl<'a, W> Model for Printing<'a, W> {
     ghost view = { λ p. p.records };
 }
 
-impl<'a, W: Write + Drop> Watch for Printing<'a, W> {
+impl<W: Write + Drop> Watch for Printing<W> {
     ghost use Rattle.dp_runs.specs.Traces.{numbers_event};
 
     // What it prints is tested, not proved; that it counts the records is.
@@ -72,7 +70,7 @@ impl<'a, W: Write + Drop> Watch for Printing<'a, W> {
     }
 }
 
-impl<'a, W: Write + Drop> Tracer for Printing<'a, W> {
+impl<W: Write + Drop> Tracer for Printing<W> {
     ghost use Rattle.dp_runs.specs.Traces.{numbers_note};
 
     ghost noted = { numbers_note };
@@ -83,27 +81,27 @@ impl<'a, W: Write + Drop> Tracer for Printing<'a, W> {
     }
 
     fn turned(&mut self, turn: Turn, view: View<'_>) {
-        if self.record.end(turn, &view) && matches!(self.run.printed, Printed::Whole) {
-            self.run.shown = self.run.shown.saturating_add(1);
-            let text = &self.record.text;
-            if text.has_failed {
-                self.run.printed = Printed::NoMemory;
-            } else if self.out.write_all(text.bytes.as_slice()).is_err() {
-                self.run.printed = Printed::Failed;
+        let line = self.record.end(turn, &view);
+        if matches!(self.printed, Printed::Whole) {
+            if line.has_failed {
+                self.printed = Printed::NoMemory;
+            } else if self.out.write_all(line.bytes.as_slice()).is_err() {
+                self.printed = Printed::Failed;
             }
         }
     }
 }
 
-/// Traces the first records of a pipeline's captures, one reader for each port, with these allocation calls refused, and prints the selected ones as
-/// they end. No capture is written. If the pipeline's region is too small the answer is `NoRoom`, which is known before any memory is asked for.
+/// Traces the first records of a pipeline's captures, one reader for each port, with these allocation calls refused, and prints a line for each as
+/// it ends: all of its bytes, or those that headers may have. No capture is written. If the pipeline's region is too small the answer is `NoRoom`, which
+/// is known before any memory is asked for.
 pub fn trace_records<K: CompiledPrograms, R: Feed, O: Write>(
     alloc: Global,
     pipeline: Pipeline,
     ins: &mut [R],
     pattern: Vec<u64>,
     which: Traced,
-    shown: Shown<'_>,
+    is_long: bool,
     out: &mut O,
 ) -> TracedRun
     requires readers { length ins.old ≡ length pipeline.env.ports }
@@ -115,23 +113,21 @@ pub fn trace_records<K: CompiledPrograms, R: Feed, O: Write>(
     let mut run = TracedRun {
         answer: Err(RunCause::NoRoom),
         printed: Printed::Whole,
-        shown: 0,
     };
     if u64::from(pipeline.region()) < need(pipeline.env()) {
         return run;
     }
     run.answer = Err(RunCause::Memory);
-    let Ok(record) = Record::new(alloc, &pipeline, shown) else {
+    let Ok(record) = Record::new(alloc, &pipeline, is_long) else {
         return run;
     };
     let mut printing = Printing {
         out,
         records: 0,
         record,
-        run,
+        printed: Printed::Whole,
     };
-    let answer = trace::<K, _, _>(alloc, pipeline, ins, pattern, which, &mut printing);
-    run = printing.run;
-    run.answer = answer;
+    run.answer = trace::<K, _, _>(alloc, pipeline, ins, pattern, which, &mut printing);
+    run.printed = printing.printed;
     run
 }

@@ -4,7 +4,7 @@ ghost use Rattle.std.specs.Prelude.{◌≡◌, [], All, IfSome, length};
 ghost use Rattle.dp_heap.specs.Elements.{count_of, is_busy};
 ghost use Rattle.dp_region.specs.Region.{IsRegionSize};
 
-use dp_console::{FAULT, Reply, Text};
+use dp_console::{Document, FAULT, Item, Reply, Text};
 use dp_heap::{Heap, HeapError, State};
 use dp_region::{Block, CACHE_LINE, MAX_REGION, MIN_REGION, Region};
 use std::alloc::Global;
@@ -177,29 +177,23 @@ fn run_script(alloc: Global, script: &[u8], out: &mut Text) -> Option<usize> {
     fault
 }
 
-/// What helps with a line that is no command.
-const COMMANDS: &str =
-    "region N comes first, with N a multiple of 64 from 4096 to 1073741824; then malloc SIZE ALIGN, \
-    zmalloc SIZE ALIGN, free K of a block that is held, list or stats, with one blank before each number";
-
-/// Says which line of a script is at fault, and what helps. A line that is not UTF-8 is said by its number alone.
-fn say_fault(file: &str, script: &[u8], number: usize, err: &mut Text) {
-    let mut lines = str::from_utf8(script).unwrap_or("").lines();
-    let line = lines.nth(number.saturating_sub(1)).unwrap_or("");
-    err.say(format_args!("fault: line {number} bad command\n  at: {file}:{number}"));
-    if !line.is_empty() {
-        err.say(format_args!(": {line}"));
-    }
-    err.say(format_args!("\n  help: {COMMANDS}\n"));
-}
-
 /// Runs a heap script, the text of this file. The status is 0; or 3 if a line is at fault, which is reported, after what the lines before it print. If
 /// memory is refused, the reply is not whole.
 pub fn mem_reply(alloc: Global, file: &str, script: &[u8]) -> Reply {
     let mut reply = Reply::new(alloc);
     if let Some(number) = run_script(alloc, script, &mut reply.out) {
         reply.status = FAULT;
-        say_fault(file, script, number, &mut reply.err);
+        reply
+            .err
+            .say(format_args!("fault: line {number} bad command\n"));
+        let mut to = Document::new(alloc);
+        to.begin_object("");
+        to.item("view", Item::Text("script"));
+        to.item("file", Item::Text(file));
+        to.item("line", Item::Number(number as u64));
+        to.item("text", Item::Text(str::from_utf8(script).unwrap_or("")));
+        to.end_object();
+        to.say_to(&mut reply.err);
     }
     reply
 }

@@ -3,21 +3,20 @@
 //! A command first reads the files that it needs as [`Sources`]. A [`Subject`] is a pipeline or one program by itself; it has nodes, each with the
 //! names of its files. Everything after that is decided from these bytes alone, so contracts speak of the contents of the files.
 //!
-//! A [`Fault`] is what ends a command: its line, its exit status and its reason. After it, [`say_pipeline_help`] and [`say_remedy`] say which line of a
-//! text is at fault, and what helps. They find the fault again in the text; no contract has their words.
+//! A [`Fault`] is what ends a command: its line and its exit status. After it, [`say_unread`], [`say_strange`], [`say_misread`] and [`say_unloaded`] say
+//! the facts of it as a document, of which tools/views says which line of a text is at fault, and what helps.
 #![tactic(auto)]
 
+mod facts;
 mod fault;
-mod pipeline_help;
-mod program_help;
-mod remedy;
+mod program;
 mod route_files;
 mod source;
 mod subject;
 
-pub use fault::{Because, Fault, FaultReason, fault_of};
-pub use pipeline_help::say_pipeline_help;
-pub use remedy::{program_of, say_remedy};
+pub use facts::{say_misread, say_strange, say_unloaded, say_unread};
+pub use fault::Fault;
+pub use program::program_of;
 pub use route_files::{RouteFile, joined};
 pub use source::{Lent, ReadError, Source, Sources, Unread};
 pub use subject::{

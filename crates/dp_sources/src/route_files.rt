@@ -1,12 +1,11 @@
 //! Files with routes, which the command line gives tables beside the routes of the pipeline.
 //!
 //! Each line of such a file is a route, as in a pipeline's `routes`; an empty line, and one that begins with `#`, is none. [`joined`] adds the routes to
-//! their tables and prints the pipeline again: that text is loaded. What is said of other faults is said of the pipeline's own text.
+//! their tables and prints the pipeline again: that text is loaded.
 
 ghost use Rattle.std.specs.Prelude.{◌≡◌, [], IfOk};
 
 use crate::source::Source;
-use dp_lang::SourceLine;
 use std::alloc::{AllocError, Global};
 use toml::ser::Error;
 use toml::{Table, Value};
@@ -30,42 +29,18 @@ impl RouteFile {
         str::from_utf8(self.source.bytes.as_slice()).unwrap_or("")
     }
 
-    /// Whether it is UTF-8.
-    pub fn is_text(&self) -> bool {
+    /// Whether it is UTF-8, and each line that has a route is printable ASCII.
+    pub fn is_fit(&self) -> bool {
+        for line in self.text().lines() {
+            let route = if has_route(line) { line } else { "" };
+            for byte in route.as_bytes() {
+                if !matches!(*byte, b' '..=b'~') {
+                    return false;
+                }
+            }
+        }
         str::from_utf8(self.source.bytes.as_slice()).is_ok()
     }
-
-    /// The number of its first line that has a route with a character that is not printable ASCII.
-    pub fn strange_line(&self) -> Option<usize> {
-        for (k, line) in self.text().lines().enumerate() {
-            let mut bytes = line.as_bytes().iter();
-            if has_route(line) && !bytes.all(|byte| matches!(*byte, b' '..=b'~')) {
-                return Some(k.saturating_add(1));
-            }
-        }
-        None
-    }
-}
-
-/// The file and the line of a route that files give a table, by its place from 0 among those, if it has one.
-pub fn route_in(
-    files: &[RouteFile],
-    table: usize,
-    place: Option<usize>,
-) -> Option<(&str, SourceLine<'_>)> {
-    let mut left = place?;
-    for file in files {
-        for (k, text) in file.text().lines().enumerate() {
-            if file.table == table && has_route(text) {
-                let number = k.saturating_add(1);
-                if left == 0 {
-                    return Some((file.source.name.as_str(), SourceLine { number, text }));
-                }
-                left = left.saturating_sub(1);
-            }
-        }
-    }
-    None
 }
 
 /// The routes of a table of a pipeline, if it has them.

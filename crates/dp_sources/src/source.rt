@@ -6,7 +6,7 @@ ghost use Rattle.dp_sources.specs.Sources.{files_of};
 
 use dp_load::{FetchFault, Files};
 use std::alloc::Global;
-use std::{fmt, io};
+use std::io;
 
 /// Why a file was not read.
 #[derive(Clone, Copy)]
@@ -17,15 +17,6 @@ pub enum ReadError {
     IsBeside(io::Error),
     /// It has more than 1,048,576 bytes.
     TooLong,
-}
-
-impl fmt::Display for ReadError {
-    fn fmt<W: fmt::Write>(&self, f: &mut fmt::Formatter<W>) -> fmt::Result {
-        match self {
-            ReadError::System(error) | ReadError::IsBeside(error) => write!(f, "{error}"),
-            ReadError::TooLong => write!(f, "it is longer than 1048576 bytes"),
-        }
-    }
 }
 
 /// A file that was not read.

@@ -110,14 +110,6 @@ impl<'a> Subject<'a> {
             None => sources.unread(asked.cert?),
         }
     }
-
-    /// The folder of the pipeline file, if that has the file of a node that was not read.
-    pub(crate) fn folder_beside(self, node: Entry, sources: &Sources) -> Option<&'a str> {
-        match (self, self.unread(node, sources)?.error) {
-            (Subject::Pipeline { file, .. }, ReadError::IsBeside(_)) => folder_of(file),
-            _ => None,
-        }
-    }
 }
 
 /// The folder of a file, as its name has it.

@@ -17,8 +17,8 @@ use Rattle.dp_verdict.specs.Reports.{findings_of, status_of, status_with}
 
 pub fault_not_zero : (f : Fault) → faults.status_of f ≡ 0 → ⊥
 fault_not_zero fault.Memory zero = absurd (omega (arith, zero))
-fault_not_zero (fault.File name because) zero = absurd (omega (arith, zero))
-fault_not_zero (fault.Pipeline error file) zero = absurd (omega (arith, zero))
+fault_not_zero (fault.File name) zero = absurd (omega (arith, zero))
+fault_not_zero (fault.Pipeline error) zero = absurd (omega (arith, zero))
 
 faulted : (f : Option Fault) (fs : List Finding) (it : Fault) → f ≡ Some it → status_with f fs ≡ 0 → ⊥
 faulted f fs it is zero = fault_not_zero it (subst (λ (o : Option Fault). status_with o fs ≡ 0) is zero)

@@ -14,14 +14,13 @@ use dp_cert::Cert;
 use dp_check::{Diagnosis, Reason, diagnose};
 use dp_console::{MEMORY, Reply};
 use dp_infer::attempt;
-use dp_lang::{Program, SourceLine, listing_of};
+use dp_lang::Program;
 use dp_load::{How, PipeError, Pipeline, cert_of, load};
 use dp_model::{Entry, Env};
 use dp_sources::{
-    Asked, Fault, Lent, MAX_NODES, RouteFile, Sources, Subject, entry_at, fault_of, program_of,
-    say_pipeline_help, say_remedy,
+    Asked, Fault, Lent, MAX_NODES, RouteFile, Sources, Subject, entry_at, program_of, say_misread,
+    say_unloaded,
 };
-use dp_words::{BuiltFor, HintText};
 use std::alloc::Global;
 
 /// The certificate by which a program is judged.
@@ -98,16 +97,16 @@ pub fn judge<'a>(
     })
 }
 
-/// The node for which a program was built, if it is one of the language pkt: then its text begins so.
-fn built_for(env: &Env, node: Entry, text: &[u8]) -> Option<BuiltFor> {
-    match node {
-        _ if !text.starts_with(b"# Built from ") => None,
-        Entry::Port(port) => {
-            let port = env.ports().get(usize::from(port))?;
-            Some(BuiltFor::Port(port.segs))
-        }
-        Entry::Ring(_) => Some(BuiltFor::Ring),
-    }
+/// Bytes as a text. It is empty if they are none.
+fn text_of(bytes: &[u8]) -> &str {
+    str::from_utf8(bytes).unwrap_or("")
+}
+
+/// The maximum number of segments of a node's packets, if it is a port.
+fn segs_of(env: &Env, node: Entry) -> Option<u32> {
+    let Entry::Port(port) = node else { return None };
+    let port = env.ports().get(usize::from(port))?;
+    Some(port.segs)
 }
 
 /// The report that all nodes of a pipeline are accepted.
@@ -141,28 +140,17 @@ impl<'a> Case<'a> {
     {
         let env = self.subject.env();
         let judged = judge(self.alloc, self.sources, env, asked)?;
-        let (verdict, text, file) = (judged.verdict, judged.text, asked.program);
-        let (Some(at), Some(reason)) = (verdict.refused, judged.reason) else {
+        let (verdict, bytes, file) = (judged.verdict, judged.text, asked.program);
+        let (Some(_), Some(reason)) = (verdict.refused, judged.reason) else {
             return Ok(Finding { verdict, why: None });
         };
-        let listing = listing_of(self.alloc, text)?;
-        let line = match listing.get(usize::from(at.label)) {
-            Some(listed) => listed.line,
-            None => SourceLine {
-                number: 0,
-                text: "",
-            },
-        };
-        let hint = HintText {
-            reason,
-            inferred: !at.given,
-            built_for: built_for(env, asked.node, text),
-        };
+        let segs = segs_of(env, asked.node);
+        let text = String::from_str(self.alloc, text_of(bytes))?;
         let why = Some(Why {
             file,
-            line,
-            listing,
-            hint,
+            text,
+            segs,
+            reason,
         });
         Ok(Finding { verdict, why })
     }
@@ -200,10 +188,7 @@ impl<'a> Case<'a> {
         let mut findings = Vec::new(self.alloc);
         let (fault, error) = match self.find(which, &mut findings) {
             Ok(()) => (None, None),
-            Err(error) => (
-                Some(fault_of(error, self.subject, self.sources)),
-                Some(error),
-            ),
+            Err(error) => (Some(Fault::of_pipeline(error)), Some(error)),
         };
         let nodes = Some(findings);
         (Report { nodes, fault }, error)
@@ -224,7 +209,7 @@ impl<'a> Case<'a> {
         let (node, given, label, rule) = match error {
             PipeError::Refused { node, label, rule } => (node, true, label, rule),
             PipeError::NotInferred { node, label, rule } => (node, false, label, rule),
-            _ => return Report::of_fault(fault_of(error, self.subject, self.sources)),
+            _ => return Report::of_fault(Fault::of_pipeline(error)),
         };
         let at = RefusedAt { given, label, rule };
         let (mut nodes, fault) = (Vec::new(self.alloc), None);
@@ -245,7 +230,7 @@ impl<'a> Case<'a> {
         }
     }
 
-    /// What a report says; then what helps against this error, and why a program by itself has no certificate.
+    /// What a report says; then the facts of this error, and why a program by itself has no certificate.
     fn said(self, report: &Report<'_>, error: Option<PipeError>, is_json: bool) -> Reply
         ensures status { result.status ≡ status_of report.now }
         ensures text { is_json ≡ false → result.out.has_failed ≡ false → IfSome (texts_of (findings_of report.now)) (λ text. result.out.bytes.items ≡ text) }
@@ -256,14 +241,13 @@ impl<'a> Case<'a> {
             return reply;
         }
         let (subject, err) = (self.subject, &mut reply.err);
-        say_remedy(self.alloc, subject, self.sources, error, err);
+        say_unloaded(self.alloc, subject, self.sources, error, err);
         if let (Subject::Single { .. }, PipeError::NotInferred { node, .. }) = (subject, error)
             && let Some(asked) = subject.node(node)
             && let Ok(finding) = self.finding(asked)
-            && let Some(why) = finding.why
+            && finding.why.is_some()
         {
-            reply.err.say("  at: ");
-            reply.err.say(why);
+            finding.say_view(self.alloc, "refusal_at", &mut reply.err);
         }
         reply
     }
@@ -291,7 +275,7 @@ pub fn explain(
     }
 }
 
-/// What is said of a pipeline that is not loaded, or of a program without a certificate; then what helps.
+/// What is said of a pipeline that is not loaded, or of a program without a certificate.
 #[tactic(auto, using(crate::proofs::ZeroStatus::refused_not_zero))]
 pub fn unloaded(
     alloc: Global,
@@ -350,6 +334,6 @@ pub fn misread(
     ensures { result.status ≡ 0 → ⊥ }
 {
     let mut reply = failed(alloc, Fault::of_pipeline(error), is_json);
-    say_pipeline_help(alloc, file, text, routes, error, &mut reply.err);
+    say_misread(alloc, file, text, routes, error, &mut reply.err);
     reply
 }

@@ -9,6 +9,7 @@
 mod costs;
 mod inferring;
 mod judging;
+mod reasons;
 mod report;
 
 pub use costs::say_costs;

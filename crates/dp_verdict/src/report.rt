@@ -1,30 +1,30 @@
 //! What a command found: the verdict on each node, as text and as a document.
 
-ghost use Rattle.std.specs.Prelude.{◌≡◌, false, IfSome, Some};
+ghost use Rattle.std.specs.Prelude.{◌≡◌, false, IfSome, None, Some};
 ghost use Rattle.std.specs.List.{list_any};
 ghost use Rattle.dp_console.specs.Replies.{Says};
 ghost use Rattle.dp_verdict.specs.Reports.{findings_of, is_refused, status_of, texts_of};
-ghost use Rattle.dp_verdict.specs.Verdicts.{alone, verdict_word};
+ghost use Rattle.dp_verdict.specs.Verdicts.{alone, finding_text, verdict_word};
 ghost use Rattle.dp_sources.specs.Faults as faults;
 
+use crate::reasons::write_reason;
+use dp_check::Reason;
 use dp_console::{DONE, Document, Item, REFUSED, Reply, Text, USAGE};
-use dp_lang::{Listed, SourceLine};
 use dp_load::NodeName;
 use dp_model::Entry;
 use dp_sources::Fault;
-use dp_words::{HintText, KnownText, RuleText, WantedText};
 use std::alloc::Global;
 use std::fmt;
 
-/// Why a program is refused: the line of its text, and the rule that it breaks there.
+/// Why a program is refused.
 #[derive(Drop)]
 pub struct Why<'a> {
     pub file: &'a str,
-    pub line: SourceLine<'a>,
-    /// All instructions of the text.
-    pub listing: Vec<Listed<'a>>,
-    /// The rule that it breaks, and what helps.
-    pub hint: HintText,
+    /// The program's text, which has the line.
+    pub text: String,
+    /// The maximum number of segments of a packet, if its node is a port.
+    pub segs: Option<u32>,
+    pub reason: Reason,
 }
 
 /// Where a program is refused, and by which rule.
@@ -76,34 +76,6 @@ impl fmt::Display for Verdict {
     }
 }
 
-/// The lines of an explanation after the verdict.
-impl fmt::Display for Why<'_> {
-    fn fmt<W: fmt::Write>(&self, f: &mut fmt::Formatter<W>) -> fmt::Result {
-        let (reason, source) = (self.hint.reason, self.listing.as_slice());
-        let (file, number, text) = (self.file, self.line.number, self.line.text);
-        write!(f, "{file}:{number}: {text}\n")?;
-        write!(f, "  {}\n", RuleText(reason.rule()))?;
-        write!(f, "  known:  {}\n", KnownText(reason))?;
-        write!(f, "  wanted: {}\n", WantedText { reason, source })?;
-        write!(f, "  help:   {}\n", self.hint)
-    }
-}
-
-/// The line with the verdict, or the lines of an explanation.
-impl fmt::Display for Finding<'_> {
-    ghost use Rattle.dp_verdict.specs.Verdicts.{finding_text};
-
-    ghost output = { λ finding. finding_text finding };
-
-    fn fmt<W: fmt::Write>(&self, f: &mut fmt::Formatter<W>) -> fmt::Result {
-        let verdict = self.verdict;
-        match &self.why {
-            None => write!(f, "{verdict}\n"),
-            Some(why) => write!(f, "{verdict}\n{why}"),
-        }
-    }
-}
-
 impl<'a> Finding<'a> {
     /// A verdict alone.
     pub fn plain(node: Entry, refused: Option<RefusedAt>) -> Finding<'a>
@@ -113,55 +85,66 @@ impl<'a> Finding<'a> {
         Finding { verdict, why: None }
     }
 
-    /// Writes it as an element of a list.
-    pub fn write(&self, to: &mut Document) {
-        let verdict = self.verdict;
-        to.begin_object("");
-        match (verdict.refused, &self.why) {
-            (Some(at), Some(why)) => why.write(verdict, at, to),
-            (Some(at), None) => {
-                to.item("label", Item::Number(u64::from(at.label)));
-                to.shown("node", NodeName(verdict.node));
-                to.shown("rule", format_args!("J{}", at.rule));
-                to.item("verdict", Item::Text(verdict_word(at.given)));
-            }
-            (None, _) => {
-                to.shown("node", NodeName(verdict.node));
-                to.item("verdict", Item::Text("accepted"));
-            }
+    /// Writes its members.
+    fn write(&self, to: &mut Document) {
+        to.shown("node", NodeName(self.verdict.node));
+        if let Some(RefusedAt { given, label, rule }) = self.verdict.refused {
+            to.object(
+                "refused",
+                &[
+                    ("given", Item::Bool(given)),
+                    ("label", Item::Number(u64::from(label))),
+                    ("rule", Item::Number(u64::from(rule))),
+                ],
+            );
         }
-        to.end_object();
+        if let Some(why) = &self.why {
+            why.write(to);
+        }
+    }
+
+    /// Says it as a document of this name.
+    pub fn say_view(&self, alloc: Global, name: &str, out: &mut Text)
+        ensures { Says out.old out.new None }
+    {
+        let mut document = Document::new(alloc);
+        document.begin_object("");
+        document.item("view", Item::Text(name));
+        self.write(&mut document);
+        document.end_object();
+        let mut line = Text::new(alloc);
+        document.say_to(&mut line);
+        out.has_failed |= line.has_failed;
+        out.say(line.words());
+    }
+
+    /// Says the line of its verdict, then the reason as a document, if that is known.
+    fn say(&self, alloc: Global, out: &mut Text)
+        ensures { Says out.old out.new (finding_text self.now) }
+    {
+        let verdict = self.verdict;
+        out.say(format_args!("{verdict}\n"));
+        if self.why.is_some() {
+            self.say_view(alloc, "refusal", out);
+        }
     }
 }
 
 impl Why<'_> {
-    /// Writes the members of a program that is refused here.
-    fn write(&self, verdict: Verdict, at: RefusedAt, to: &mut Document) {
-        let (reason, hint, source) = (self.hint.reason, self.hint, self.listing.as_slice());
-        let (states, known) = (RuleText(reason.rule()), KnownText(reason));
-        let wanted = WantedText { reason, source };
-        let (file, number, text) = (self.file, self.line.number, self.line.text);
-        let comment = self.line.comment().map_or(Item::Null, Item::Text);
-        to.item("comment", comment);
-        to.item("file", Item::Text(file));
-        to.shown("help", hint);
-        to.item("instruction", Item::Text(self.line.code()));
-        to.shown("known", known);
-        to.item("label", Item::Number(u64::from(at.label)));
-        to.item("line", Item::Number(number as u64));
-        to.shown("node", NodeName(verdict.node));
-        to.begin_list("reason");
-        to.shown("", verdict);
-        to.shown("", format_args!("{file}:{number}: {text}"));
-        to.shown("", format_args!("  {states}"));
-        to.shown("", format_args!("  known:  {known}"));
-        to.shown("", format_args!("  wanted: {wanted}"));
-        to.shown("", format_args!("  help:   {hint}"));
-        to.end_list();
-        to.shown("rule", format_args!("J{}", at.rule));
-        to.shown("states", states);
-        to.item("verdict", Item::Text(verdict_word(at.given)));
-        to.shown("wanted", wanted);
+    /// Writes it.
+    fn write(&self, to: &mut Document) {
+        to.begin_object("why");
+        to.item("file", Item::Text(self.file));
+        write_reason(self.reason, to);
+        to.item(
+            "segs",
+            match self.segs {
+                Some(segs) => Item::Number(u64::from(segs)),
+                None => Item::Null,
+            },
+        );
+        to.item("text", Item::Text(self.text.as_str()));
+        to.end_object();
     }
 }
 
@@ -207,19 +190,19 @@ impl<'a> Report<'a> {
     /// Writes the document. If memory ran out, it says only that.
     fn write(&self, to: &mut Document) {
         to.begin_object("");
-        match self.fault {
-            None => to.item("fault", Item::Null),
-            Some(fault) => {
-                to.begin_object("fault");
-                to.item("status", Item::Number(u64::from(fault.status())));
-                to.shown("text", fault);
-                to.end_object();
-            }
+        to.item("view", Item::Text("report"));
+        if let Some(fault) = self.fault {
+            to.begin_object("fault");
+            to.item("status", Item::Number(u64::from(fault.status())));
+            to.shown("text", fault);
+            to.end_object();
         }
         if self.nodes.is_some() && !matches!(self.fault, Some(Fault::Memory)) {
             to.begin_list("nodes");
             for finding in self.findings() {
+                to.begin_object("");
                 finding.write(to);
+                to.end_object();
             }
             to.end_list();
         }
@@ -238,12 +221,12 @@ fn has_refused(findings: &[Finding<'_>]) -> bool
 
 /// Says findings as text.
 #[tactic(auto, using(crate::proofs::Saying::says_nothing, crate::proofs::Saying::says_both))]
-fn say_text(findings: &[Finding<'_>], out: &mut Text)
+fn say_text(alloc: Global, findings: &[Finding<'_>], out: &mut Text)
     ensures { Says out.old out.new (texts_of findings.now) }
 {
     if let [first, later @ ..] = findings {
-        out.say(first);
-        say_text(later, out);
+        first.say(alloc, out);
+        say_text(alloc, later, out);
     }
 }
 
@@ -258,11 +241,11 @@ pub fn reply_of(alloc: Global, report: &Report<'_>, is_json: bool) -> Reply
         report.write(&mut document);
         document.say_to(&mut out);
     } else {
-        say_text(report.findings(), &mut out);
+        say_text(alloc, report.findings(), &mut out);
     }
     let mut err = Text::new(alloc);
     if let Some(fault) = report.fault {
-        fault.say(&mut err);
+        err.say(format_args!("{fault}\n"));
     }
     Reply {
         status: report.status(),

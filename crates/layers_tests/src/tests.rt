@@ -1,9 +1,8 @@
-//! Calls with their answers, by the layer that they are of, and the words of all errors.
+//! Calls with their answers, by the layer that they are of, and words of errors.
 
 mod captures;
 mod cases;
 mod causes;
-mod environments;
 mod heaps;
 mod mbufs;
 mod memory;

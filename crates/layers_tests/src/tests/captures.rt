@@ -1,24 +1,12 @@
-//! Captures that are read and written, and devices that fail.
+//! Devices of captures that a caller writes: what they are asked for, and what comes of it. What captures are read as, and what is written of them,
+//! is in tests/program/copies.py.
 
 mod devices;
-mod reading;
-mod whole_records;
 mod writing;
 
 use super::cases;
 use crate::copies::copy;
-use dp_pcap::{Feed, Next, OfWrite, PcapError, Sink, Source, next_record};
-use std::alloc::Global;
-
-/// A header: little endian, microseconds.
-const MICRO_HEADER: [u8; 24] = [
-    0xd4, 0xc3, 0xb2, 0xa1, 2, 0, 4, 0, 0, 0, 0, 0, 0, 0, 0, 0, 0, 0, 4, 0, 1, 0, 0, 0,
-];
-
-/// A header: little endian, nanoseconds.
-const NANO_HEADER: [u8; 24] = [
-    0x4d, 0x3c, 0xb2, 0xa1, 2, 0, 4, 0, 0, 0, 0, 0, 0, 0, 0, 0, 0, 0, 4, 0, 1, 0, 0, 0,
-];
+use dp_pcap::{Feed, Next, PcapError, Sink, Source, next_record};
 
 /// The bytes of the record in `HUNDRED`.
 const BODY: [u8; 60] = [
@@ -71,29 +59,8 @@ fn next<R: Feed>(r: &mut R, source: &mut Source, buf: &mut Buffer) -> Result<Nex
 }
 
 // Copies a capture, with room for a record.
-fn copied_in<R: Feed, W: Sink>(
-    r: &mut R,
-    w: &mut W,
-    buf: &mut Buffer,
-) -> Result<Option<u64>, PcapError> {
-    copy(r, w, buf.as_mut_slice())
-}
-
-// Copies a capture.
 fn copied<R: Feed, W: Sink>(r: &mut R, w: &mut W) -> Result<Option<u64>, PcapError> {
-    copied_in(r, w, &mut [0u8; ROOM])
-}
-
-// Whether a copy of a capture gives this answer, and these bytes are written.
-fn is_copied<R: Feed>(
-    alloc: Global,
-    r: &mut R,
-    answer: Result<Option<u64>, PcapError>,
-    written: &[u8],
-) -> bool {
-    let mut w = OfWrite::new(Vec::new(alloc));
-    let is_answer = copied(r, &mut w) == answer;
-    w.into_inner().as_slice() == written && is_answer
+    copy(r, w, &mut [0u8; ROOM])
 }
 
 // The constants are read by these functions alone, since each function that reads one spells it out.

@@ -1,11 +1,11 @@
 //! How often readers are called, and what their buffers hold.
 
-use super::cases::{Case, all_hold, must, none_differs};
-use super::writing::{Taker, buffered_list};
+use super::cases::{Case, all_hold, must};
+use super::writing::Taker;
 use super::{Buffer, ROOM, body, copied, edited, hundred, next, three_records};
 use dp_pcap::{
-    FailingFeed, Feed, Next, OfBufReader, OfBufWriter, OfRead, OfWrite, PcapError, Source, Time,
-    pass_record, read_header, record_at_hand,
+    FailingFeed, Feed, Next, OfBufReader, OfRead, OfWrite, PcapError, Source, Time, pass_record,
+    read_header, record_at_hand,
 };
 use std::alloc::Global;
 use std::io;
@@ -109,35 +109,30 @@ fn walk<R: Feed>(r: &mut R) -> Option<Walked> {
     }
 }
 
-/// How much a device holds at the end, how many records were truncated, and how often its reader was called.
-type After = (usize, u64, usize);
+/// How much a device holds at the end, and how often its reader was called.
+type After = (usize, usize);
 
 // Reads without a buffer.
 fn walk_plainly(inner: Sipped<'_>) -> (Option<Walked>, After) {
     let mut r = OfRead::new(inner);
     let walk = walk(&mut r);
-    let (held, truncated) = (r.held().len(), r.truncated());
-    (walk, (held, truncated, r.into_inner().count))
+    let held = r.held().len();
+    (walk, (held, r.into_inner().count))
 }
 
-/// A feed over a reader with a buffer of this room.
-fn buffered<R: Read + Drop>(alloc: Global, room: usize, inner: R) -> Option<OfBufReader<R>> {
-    match BufReader::with_capacity(alloc, room, inner) {
+/// A feed over bytes with a buffer of this room.
+fn buffered(alloc: Global, room: usize, bytes: &[u8]) -> Option<OfBufReader<&[u8]>> {
+    match BufReader::with_capacity(alloc, room, bytes) {
         Ok(inner) => Some(OfBufReader::new(inner)),
         Err(_) => None,
     }
 }
 
-// Reads with a buffer of this room.
-fn walk_behind(alloc: Global, room: usize, inner: Sipped<'_>) -> (Option<Walked>, After) {
-    match &mut buffered(alloc, room, inner) {
-        Some(r) => {
-            let walk = walk(r);
-            let calls = r.get_ref().get_ref().count;
-            (walk, (r.held().len(), r.truncated(), calls))
-        }
-        None => (None, (0, 0, 0)),
-    }
+// Reads with a buffer of this room; returns how much it holds at the end, too.
+fn walk_behind(alloc: Global, room: usize, bytes: &[u8]) -> Option<(Walked, usize)> {
+    let mut r = buffered(alloc, room, bytes)?;
+    let walk = walk(&mut r)?;
+    Some((walk, r.held().len()))
 }
 
 /// Bytes of `THREE_RECORDS` that have other values, the room of a buffer, how many records come and how many are at hand in it, how many bytes it
@@ -166,12 +161,11 @@ static AT_HAND: [AtHand; 8] = [
 impl Case for AtHand {
     fn holds(&self, alloc: Global) -> bool {
         let bytes = edited(three_records(), self.0);
-        let (walk, after) = walk_behind(alloc, self.1, Sipped::whole(&bytes));
-        match walk {
-            Some(walk) => {
+        match walk_behind(alloc, self.1, &bytes) {
+            Some((walk, held)) => {
                 walk.count == self.2
                     && walk.at_hand == self.3
-                    && after.0 == self.4
+                    && held == self.4
                     && walk.ends == self.5
             }
             None => false,
@@ -185,71 +179,23 @@ fn what_is_at_hand_comes_next(rt: HostRuntime) {
     all_hold(&rt, rt.alloc(), &AT_HAND);
 }
 
-// What reading from a feed with a buffer comes to that fails after 30 bytes.
-fn walk_broken(alloc: Global) -> Option<Walked> {
-    walk(&mut FailingFeed::new(buffered(alloc, 256, three_records())?, 30))
+// What reading from a feed with a buffer comes to that fails after 30 bytes, and how many bytes are left in the buffer.
+fn walk_broken(alloc: Global) -> Option<(Walked, usize)> {
+    let mut r = FailingFeed::new(buffered(alloc, 256, three_records())?, 30);
+    let walk = walk(&mut r)?;
+    Some((walk, r.into_inner().held().len()))
 }
 
 // A device that is broken has nothing at hand.
 #[test]
 fn nothing_is_at_hand_in_a_broken_device(rt: HostRuntime) {
     let is_broken = match walk_broken(rt.alloc()) {
-        Some(walk) => walk.at_hand == 0 && walk.ends == Err(PcapError::Read),
+        Some((walk, left)) => {
+            walk.at_hand == 0 && walk.ends == Err(PcapError::Read) && left == 116
+        }
         None => false,
     };
     must(&rt, is_broken, "nothing");
-}
-
-/// The bytes of `THREE_RECORDS` that have other values, how many bytes come, how many records are read, and how many of them are truncated.
-struct Truncated(&'static [(usize, u8)], usize, usize, u64);
-
-static TRUNCATED: [Truncated; 12] = [
-    // A record is truncated if its packet had more bytes than were captured.
-    Truncated(&[(36, 14)], 146, 3, 0),
-    Truncated(&[(36, 15)], 146, 3, 1),
-    Truncated(&[(37, 1)], 146, 3, 1),
-    Truncated(&[(36, 13)], 146, 3, 0),
-    Truncated(&[(66, 1)], 146, 3, 1),
-    Truncated(&[(69, 255)], 146, 3, 1),
-    // A record that ends before its captured bytes do was not read, so it is not counted.
-    Truncated(&[(36, 200), (82, 200)], 146, 3, 2),
-    Truncated(&[(36, 200), (82, 200)], 145, 2, 1),
-    Truncated(&[(36, 200), (82, 200)], 86, 2, 1),
-    Truncated(&[(36, 200), (82, 200)], 54, 1, 1),
-    Truncated(&[(36, 200), (82, 200)], 53, 0, 0),
-    Truncated(&[(36, 200), (82, 200)], 24, 0, 0),
-];
-
-// Whether this number of records was read, and this number of them truncated.
-fn is_counted(read: (Option<Walked>, After), records: usize, truncated: u64) -> bool {
-    match read.0 {
-        Some(walk) => walk.count == records && walk.ends.is_ok() && read.1.1 == truncated,
-        None => false,
-    }
-}
-
-impl Case for Truncated {
-    // Whether they are without a buffer, and with one of any room.
-    fn holds(&self, alloc: Global) -> bool {
-        let bytes = edited(three_records(), self.0);
-        let front = bytes.get(..self.1).unwrap_or(&[]);
-        for room in [0usize, 16, 54, 146, 200, 256] {
-            if !is_counted(
-                walk_behind(alloc, room, Sipped::whole(front)),
-                self.2,
-                self.3,
-            ) {
-                return false;
-            }
-        }
-        is_counted(walk_plainly(Sipped::whole(front)), self.2, self.3)
-    }
-}
-
-// Whether the record is at hand or read in parts, its truncation is counted.
-#[test]
-fn truncated_records_are_counted(rt: HostRuntime) {
-    all_hold(&rt, rt.alloc(), &TRUNCATED);
 }
 
 /// How many bytes of `THREE_RECORDS` come, how many of them at most in a call, where the record begins in which they end, if they end in one, and
@@ -288,7 +234,7 @@ impl CutOff {
         inner.most = self.1;
         inner.fails = fails;
         match walk_plainly(inner) {
-            (Some(walk), (held, _, calls)) => {
+            (Some(walk), (held, calls)) => {
                 walk.ends == ends && walk.at_hand == 0 && held == 0 && calls == self.3
             }
             (None, _) => false,
@@ -330,72 +276,35 @@ fn a_copy_makes_a_call_a_piece(rt: HostRuntime) {
     must(&rt, holds, "a call a piece");
 }
 
-// Whether two headers in turn fail.
-fn fails_twice<R: Feed>(r: &mut R) -> bool {
-    let first = read_header(r).err() == Some(PcapError::Read);
-    first && read_header(r).err() == Some(PcapError::Read)
-}
-
-// A reader that is interrupted.
-fn interrupted() -> Sipped<'static> {
+// Whether a reader that is interrupted breaks its device, and is called once for two headers in turn.
+fn is_called_once() -> bool {
     let mut inner = Sipped::whole(&[]);
     inner.fails = Some(ErrorKind::Interrupted);
-    inner
+    let mut r = OfRead::new(inner);
+    let fails = read_header(&mut r).err() == Some(PcapError::Read)
+        && read_header(&mut r).err() == Some(PcapError::Read);
+    fails && r.into_inner().count == 1
 }
 
-// Whether such a reader of which two headers in turn fail is called once.
-fn is_called_once() -> bool {
-    let mut r = OfRead::new(interrupted());
-    fails_twice(&mut r) && r.into_inner().count == 1
+// Whether a record of which one byte is missing is read, and the bytes after it in the buffer stay as they were.
+fn is_front(r: &mut OfRead<Sipped<'_>>, buf: &mut Buffer) -> bool {
+    let Ok(mut source) = read_header(r) else {
+        return false;
+    };
+    let time = Time { sec: 1, nano: 2000 };
+    next(r, &mut source, buf) == Ok(Next::Record(time, 60))
+        && buf.as_slice().starts_with(body())
+        && buf.get(60) == Some(&7u8)
+        && r.truncated() == 1
+        && next(r, &mut source, buf) == Ok(Next::End)
 }
 
-// The same with a buffer.
-fn is_called_once_behind(alloc: Global) -> bool {
-    match &mut buffered(alloc, 64, interrupted()) {
-        Some(r) => fails_twice(r) && r.get_ref().get_ref().count == 1,
-        None => false,
-    }
-}
-
-// An interrupted read breaks the device, and the reader is not called again, with a buffer in between or without.
+// A record changes only the front of the buffer. A reader that failed is left alone, and one that is given back has what was not read.
 #[test]
-fn a_failed_reader_is_left_alone(rt: HostRuntime) {
-    let is_once = is_called_once() && is_called_once_behind(rt.alloc());
-    must(&rt, is_once, "one call");
-}
-
-// Whether `HUNDRED` is read whole and copied through buffers of this room.
-fn is_copied_to(alloc: Global, room: usize, w: &mut OfBufWriter<Vec<u8>>) -> bool {
-    match &mut buffered(alloc, room, hundred()) {
-        Some(r) => {
-            copied(r, w) == Ok(None)
-                && r.get_ref().buffer().is_empty()
-                && r.get_ref().get_ref().is_empty()
-        }
-        None => false,
-    }
-}
-
-fn has_written(w: &mut OfBufWriter<Vec<u8>>) -> bool {
-    w.flush().is_ok() && w.get_ref().get_ref().as_slice() == hundred()
-}
-
-// The first room of buffers that changes a copy.
-fn room_that_differs(alloc: Global) -> Option<usize> {
-    for room in 0..102usize {
-        let is_same = match &mut buffered_list(alloc, room) {
-            Some(w) => is_copied_to(alloc, room, w) && has_written(w),
-            None => false,
-        };
-        if !is_same {
-            return Some(room);
-        }
-    }
-    None
-}
-
-// Buffers that end at every byte of a header, of a record's head and of its bytes.
-#[test]
-fn buffers_of_any_room_change_nothing(rt: HostRuntime) {
-    none_differs(&rt, 0, room_that_differs(rt.alloc()));
+fn a_reader_gives_what_is_asked(rt: HostRuntime) {
+    let bytes = edited(hundred(), &[(36, 61)]);
+    let mut r = OfRead::new(Sipped::whole(bytes.get(..100).unwrap_or(&[])));
+    let is_front = is_front(&mut r, &mut [7u8; ROOM]);
+    let is_so = is_front && r.into_inner().left.is_empty() && is_called_once();
+    must(&rt, is_so, "a reader");
 }

@@ -1,63 +1,17 @@
 //! What writers of captures are offered, and what they hold.
 
 use super::cases::{Case, all_hold, must};
-use super::{body, copied, edited, hundred, is_copied};
+use super::{body, copied, hundred};
 use Asked::{Flush, Push, Take};
 use Put::{Bytes, Head, Header, OfHundred, Record};
-use Taking::{AtMost, Fails};
+use Taking::{AtMost, Fails, Interrupted};
 use dp_pcap::{
-    Buffered, FailingSink, Feed, MAX_RECORD, NANOS_A_SECOND, OfBufReader, OfBufWriter, OfRead,
-    OfWrite, PcapError, Sink, Time, Unit, put_bytes, put_head, put_header, put_record,
+    Buffered, FailingSink, MAX_RECORD, NANOS_A_SECOND, OfBufWriter, OfRead, OfWrite, PcapError,
+    Sink, Time, Unit, put_bytes, put_head, put_header, put_record,
 };
 use std::alloc::Global;
-use std::io::{BufReader, Write};
-use std::test::Fail;
-use std::{fs, io};
-
-/// A capture with one record of 2 bytes in microseconds, little endian and big endian.
-const LITTLE: [u8; 42] = [
-    0xd4, 0xc3, 0xb2, 0xa1, 2, 0, 4, 0, 0, 0, 0, 0, 0, 0, 0, 0, 0, 0, 4, 0, 1, 0, 0, 0, 4, 3, 2, 1,
-    3, 0, 0, 0, 2, 0, 0, 0, 2, 0, 0, 0, 5, 6,
-];
-
-const BIG: [u8; 42] = [
-    0xa1, 0xb2, 0xc3, 0xd4, 0, 2, 0, 4, 0, 0, 0, 0, 0, 0, 0, 0, 0, 4, 0, 0, 0, 0, 0, 1, 1, 2, 3, 4,
-    0, 0, 0, 3, 0, 0, 0, 2, 0, 0, 0, 2, 5, 6,
-];
-
-/// The bytes that are others in nanoseconds.
-const NANO_LITTLE: [(usize, u8); 2] = [(0, 0x4d), (1, 0x3c)];
-
-const NANO_BIG: [(usize, u8); 2] = [(2, 0x3c), (3, 0x4d)];
-
-/// A capture, those of its bytes that have other values, and those of `LITTLE` that have in the spelling in which it is written.
-struct Spelling(
-    &'static [u8],
-    &'static [(usize, u8)],
-    &'static [(usize, u8)],
-);
-
-static SPELLINGS: [Spelling; 4] = [
-    Spelling(&LITTLE, &[], &[]),
-    Spelling(&BIG, &[], &[]),
-    Spelling(&LITTLE, &NANO_LITTLE, &NANO_LITTLE),
-    Spelling(&BIG, &NANO_BIG, &NANO_LITTLE),
-];
-
-impl Case for Spelling {
-    fn holds(&self, alloc: Global) -> bool {
-        let (read, written) = (edited(self.0, self.1), edited(&LITTLE, self.2));
-        match (read.get(..42), written.get(..42)) {
-            (Some(bytes), Some(copy)) => is_copied(alloc, &mut OfRead::new(bytes), Ok(None), copy),
-            _ => false,
-        }
-    }
-}
-
-#[test]
-fn copies_all_spellings(rt: HostRuntime) {
-    all_hold(&rt, rt.alloc(), &SPELLINGS);
-}
+use std::io;
+use std::io::Write;
 
 /// A call that writes a part of a capture.
 enum Put {
@@ -200,79 +154,6 @@ fn written(rt: HostRuntime) {
     all_hold(&rt, rt.alloc(), &WRITTEN);
 }
 
-// Copies `HUNDRED`.
-fn copied_hundred<W: Sink>(w: &mut W) -> Result<Option<u64>, PcapError> {
-    copied(&mut OfRead::new(hundred()), w)
-}
-
-// Copies `HUNDRED` to a writer that takes `most` bytes a call and fails after these bytes. Returns whether it holds them.
-fn is_front(alloc: Global, most: usize, front: &[u8]) -> bool {
-    let mut w = failing(alloc, most, front.len());
-    let answer = copied_hundred(&mut w);
-    let wanted = if front.len() < 100 {
-        Err(PcapError::Write)
-    } else {
-        Ok(None)
-    };
-    has_held(w, front) && answer == wanted
-}
-
-// Whether each front of `HUNDRED` is what such a writer holds that fails after it.
-fn are_fronts(alloc: Global, most: usize) -> bool {
-    for len in 0..101usize {
-        match hundred().get(..len) {
-            Some(front) if is_front(alloc, most, front) => {}
-            _ => return false,
-        }
-    }
-    true
-}
-
-// Copies a capture into a file.
-fn into_file<R: Feed>(rt: &HostRuntime, r: &mut R) -> Result<bool, Fail> {
-    let mut w = OfWrite::new(fs::create(rt, "pcap_copy_out")?);
-    Ok(copied(r, &mut w) == Ok(None))
-}
-
-// The same with a buffer.
-fn into_buffer<R: Feed>(rt: &HostRuntime, r: &mut R) -> Result<bool, Fail> {
-    let file = fs::create(rt, "pcap_copy_out")?;
-    let mut w = OfBufWriter::new(Buffered::with_capacity(rt.alloc(), 8192, file)?);
-    Ok(copied(r, &mut w) == Ok(None) && w.flush().is_ok())
-}
-
-// Copies one file to the other.
-fn through_files(rt: &HostRuntime) -> Result<bool, Fail> {
-    into_file(rt, &mut OfRead::new(fs::open(rt, "pcap_copy_in")?))
-}
-
-// The same with buffers.
-fn through_buffers(rt: &HostRuntime) -> Result<bool, Fail> {
-    let inner = BufReader::new(rt.alloc(), fs::open(rt, "pcap_copy_in")?)?;
-    into_buffer(rt, &mut OfBufReader::new(inner))
-}
-
-// Whether `HUNDRED` was written.
-fn is_in_file(rt: &HostRuntime) -> Result<bool, Fail> {
-    Ok(fs::read(rt, "pcap_copy_out")?.as_slice() == hundred())
-}
-
-fn remove_files(rt: &HostRuntime) -> Result<(), Fail> {
-    fs::remove_file(rt, "pcap_copy_in")?;
-    fs::remove_file(rt, "pcap_copy_out")?;
-    Ok(())
-}
-
-#[test]
-fn copies_files(rt: HostRuntime) -> Result<(), Fail> {
-    fs::write(&rt, "pcap_copy_in", hundred())?;
-    let is_same = through_files(&rt)? && is_in_file(&rt)?;
-    must(&rt, is_same, "the copy");
-    let is_same = through_buffers(&rt)? && is_in_file(&rt)?;
-    must(&rt, is_same, "the copy through buffers");
-    remove_files(&rt)
-}
-
 // Whether a record of 76 bytes fits into the buffer of a writer with room left, and the buffer holds `held` bytes afterwards.
 fn fits_as(w: &mut OfBufWriter<Vec<u8>>, fits: bool, held: usize) -> bool {
     let fitted = w.has_room(16, 60);
@@ -288,7 +169,7 @@ fn empties(w: &mut OfBufWriter<Vec<u8>>, fits: bool) -> bool {
 }
 
 /// A writer with a buffer of this room over a list of bytes.
-pub(super) fn buffered_list(alloc: Global, room: usize) -> Option<OfBufWriter<Vec<u8>>> {
+fn buffered_list(alloc: Global, room: usize) -> Option<OfBufWriter<Vec<u8>>> {
     match Buffered::with_capacity(alloc, room, Vec::new(alloc)) {
         Ok(inner) => Some(OfBufWriter::new(inner)),
         Err(_) => None,
@@ -367,16 +248,18 @@ fn what_a_buffer_takes_and_writes(rt: HostRuntime) {
 pub(super) enum Taking {
     AtMost(usize),
     Fails,
+    Interrupted,
 }
 
 /// A writer that takes bytes as it is asked to in its first calls, and then at most `most` a call. It has the lengths that it was offered in each
-/// call, and what it took.
+/// call, and what it took, and counts how often it is flushed.
 #[derive(Drop)]
 pub(super) struct Taker {
     first: &'static [Taking],
     most: usize,
     pub(super) offered: Vec<usize>,
     pub(super) held: Vec<u8>,
+    flushes: usize,
 }
 
 impl Taker {
@@ -386,15 +269,17 @@ impl Taker {
             most,
             offered: Vec::new(alloc),
             held: Vec::new(alloc),
+            flushes: 0,
         }
     }
 
-    // How many bytes of a buffer of this length it takes in the next call.
-    fn taken(&self, len: usize) -> usize {
+    // How many bytes of a buffer of this length it takes in the next call, or why it fails.
+    fn taken(&self, len: usize) -> Result<usize, io::ErrorKind> {
         match self.first.get(self.offered.len()) {
-            Some(AtMost(most)) => len.min(*most),
-            Some(Fails) => len.saturating_add(1),
-            None => len.min(self.most),
+            Some(AtMost(most)) => Ok(len.min(*most)),
+            Some(Fails) => Err(io::ErrorKind::BrokenPipe),
+            Some(Interrupted) => Err(io::ErrorKind::Interrupted),
+            None => Ok(len.min(self.most)),
         }
     }
 }
@@ -405,13 +290,20 @@ impl Write for Taker {
         if self.offered.push(buf.len()).is_err() {
             return Err(io::ErrorKind::OutOfMemory.into());
         }
-        match buf.get(..taken) {
-            Some(front) if self.held.extend_from_slice(front).is_ok() => Ok(taken),
-            _ => Err(io::ErrorKind::BrokenPipe.into()),
+        match taken {
+            Ok(taken) => {
+                let front = buf.get(..taken).unwrap_or(&[]);
+                if self.held.extend_from_slice(front).is_err() {
+                    return Err(io::ErrorKind::OutOfMemory.into());
+                }
+                Ok(front.len())
+            }
+            Err(kind) => Err(kind.into()),
         }
     }
 
     fn flush(&mut self) -> io::Result<()> {
+        self.flushes = self.flushes.saturating_add(1);
         Ok(())
     }
 }
@@ -520,69 +412,44 @@ fn a_failed_writer_is_left_alone(rt: HostRuntime) {
     all_hold(&rt, rt.alloc(), &LEFT_ALONE);
 }
 
-/// A writer whose first call is interrupted, and that takes at most 7 bytes in each later one. It counts its calls, and how often it is flushed.
-#[derive(Drop)]
-struct Halting {
-    calls: usize,
-    flushes: usize,
-    held: Vec<u8>,
+// Whether a writer is called once more than it takes pieces of 7 bytes, holds all of `HUNDRED`, and is flushed once.
+fn has_all(inner: &Taker) -> bool {
+    inner.held.as_slice() == hundred() && inner.offered.len() == 16 && inner.flushes == 1
 }
 
-impl Write for Halting {
-    fn write(&mut self, buf: &[u8]) -> io::Result<usize> {
-        self.calls = self.calls.saturating_add(1);
-        if self.calls == 1 {
-            return Err(io::ErrorKind::Interrupted.into());
-        }
-        let taken = buf.len().min(7);
-        match buf.get(..taken) {
-            Some(front) if self.held.extend_from_slice(front).is_ok() => Ok(taken),
-            _ => Err(io::ErrorKind::OutOfMemory.into()),
-        }
-    }
-
-    fn flush(&mut self) -> io::Result<()> {
-        self.flushes = self.flushes.saturating_add(1);
-        Ok(())
-    }
-}
-
-// Such a writer behind a buffer that `HUNDRED` does not fill.
-fn interrupted_once(alloc: Global) -> io::Result<Buffered<Halting>> {
-    let inner = Halting {
-        calls: 0,
-        flushes: 0,
-        held: Vec::new(alloc),
-    };
-    Buffered::with_capacity(alloc, 101, inner)
-}
-
-// Whether it is called once more than it takes pieces of 7 bytes, holds all of `HUNDRED`, and is flushed once.
-fn has_all(inner: &Halting) -> bool {
-    inner.held.as_slice() == hundred() && inner.calls == 16 && inner.flushes == 1
+// Whether a buffer holds `HUNDRED`, and writes all of it when it is flushed.
+fn is_flushed_whole(w: &mut Buffered<Taker>) -> bool {
+    w.write(hundred()).is_ok()
+        && w.get_ref().offered.is_empty()
+        && w.flush().is_ok()
+        && has_all(w.get_ref())
 }
 
 // A writer behind a buffer is called again where it was interrupted, and where it took a part, and its flush comes after what the buffer held.
 #[test]
-fn a_flush_writes_all_and_goes_on(rt: HostRuntime) -> Result<(), Fail> {
-    let mut w = interrupted_once(rt.alloc())?;
-    let is_held = w.write(hundred())? == 100 && w.get_ref().calls == 0;
-    w.flush()?;
-    must(&rt, is_held && has_all(w.get_ref()), "all is written");
-    Ok(())
+fn a_flush_writes_all_and_goes_on(rt: HostRuntime) {
+    let inner = Taker::new(rt.alloc(), &[Interrupted], 7);
+    let is_whole = match &mut Buffered::with_capacity(rt.alloc(), 101, inner) {
+        Ok(w) => is_flushed_whole(w),
+        Err(_) => false,
+    };
+    must(&rt, is_whole, "all is written");
+}
+
+// Whether a buffer before a list holds `HUNDRED`, which is written when it is dropped.
+fn is_held(alloc: Global, to: &mut Vec<u8>) -> bool {
+    match &mut Buffered::with_capacity(alloc, 101, to) {
+        Ok(w) => w.write(hundred()).is_ok() && w.get_ref().is_empty(),
+        Err(_) => false,
+    }
 }
 
 // What a buffer holds is written when it is dropped.
 #[test]
-fn a_dropped_buffer_is_written(rt: HostRuntime) -> Result<(), Fail> {
-    let file = fs::create(&rt, "pcap_dropped")?;
-    let mut w = Buffered::with_capacity(rt.alloc(), 101, file)?;
-    let is_held = w.write(hundred())? == 100 && fs::read(&rt, "pcap_dropped")?.is_empty();
-    drop(w);
-    let is_written = fs::read(&rt, "pcap_dropped")?.as_slice() == hundred();
-    must(&rt, is_held && is_written, "what was held");
-    fs::remove_file(&rt, "pcap_dropped")?;
-    Ok(())
+fn a_dropped_buffer_is_written(rt: HostRuntime) {
+    let mut to = Vec::new(rt.alloc());
+    let is_held = is_held(rt.alloc(), &mut to);
+    must(&rt, is_held && to.as_slice() == hundred(), "what was held");
 }
 
 // What is left of these lengths after those that a writer that takes `most` bytes a call is offered of one piece; none if they differ.
@@ -610,9 +477,9 @@ fn are_offers(offered: &[usize], most: usize) -> bool {
     rest.is_empty()
 }
 
-// Whether a writer took these bytes, and was offered pieces and then their rests.
-fn was_offered_pieces(taker: Taker, bytes: &[u8], most: usize) -> bool {
-    taker.held.as_slice() == bytes && are_offers(taker.offered.as_slice(), most)
+// Whether a writer took `HUNDRED`, and was offered pieces and then their rests.
+fn was_offered_pieces(taker: Taker, most: usize) -> bool {
+    taker.held.as_slice() == hundred() && are_offers(taker.offered.as_slice(), most)
 }
 
 /// How many bytes a writer takes a call.
@@ -621,10 +488,8 @@ struct Most(usize);
 impl Case for Most {
     fn holds(&self, alloc: Global) -> bool {
         let mut w = OfWrite::new(Taker::new(alloc, &[], self.0));
-        let answer = copied_hundred(&mut w);
-        was_offered_pieces(w.into_inner(), hundred(), self.0)
-            && answer == Ok(None)
-            && are_fronts(alloc, self.0)
+        let answer = copied(&mut OfRead::new(hundred()), &mut w);
+        was_offered_pieces(w.into_inner(), self.0) && answer == Ok(None)
     }
 }
 
@@ -639,8 +504,7 @@ static MOST: [Most; 8] = [
     Most(1000),
 ];
 
-// The header, the record's head and its bytes are one piece each: a writer is offered a whole piece, and then the rest of it. It may fail after any
-// byte.
+// The header, the record's head and its bytes are one piece each: a writer is offered a whole piece, and then the rest of it.
 #[test]
 fn a_writer_is_offered_a_piece_and_then_its_rest(rt: HostRuntime) {
     all_hold(&rt, rt.alloc(), &MOST);

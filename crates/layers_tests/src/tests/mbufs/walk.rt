@@ -11,7 +11,7 @@ use super::cases::must;
 use super::setup::{close, open, sized};
 use dp_mbuf::{Mbufs, POOL_HANDLES};
 use dp_model::Packet;
-use std::alloc::{AllocError, Global};
+use std::alloc::Global;
 use std::process::Abort;
 
 // A packet, and the bytes that it should have.
@@ -30,8 +30,11 @@ struct Walk {
     chains: u32,
 }
 
-// The result of a step: an error if a list of the test could not grow.
-type Grown = Result<(), AllocError>;
+// Keeps a packet with the bytes that it should have.
+fn keep(rt: &impl Abort, walk: &mut Walk, packet: Packet, bytes: Vec<u8>) {
+    let is_kept = walk.shadows.push(Shadow { packet, bytes }).is_ok();
+    must(rt, is_kept, "memory");
+}
 
 // The pool of a packet's first mbuf.
 fn pool_of(packet: &Packet) -> u32 {
@@ -65,41 +68,34 @@ fn pick_up_to(seed: &mut u64, most: u16) -> u16
     (next(seed) % (most.min(9) as u64 + 1)) as u16
 }
 
-fn walk_receive(rt: &impl Abort, alloc: Global, m: &mut Mbufs, walk: &mut Walk) -> Grown
+fn walk_receive(rt: &impl Abort, alloc: Global, m: &mut Mbufs, walk: &mut Walk)
     requires { IsOver m.old.store }
     ensures { StaysOver m.old m.new }
 {
     let mut bytes = Vec::new(alloc);
     for _ in 0..next(&mut walk.seed) % 150 {
-        bytes.push((next(&mut walk.seed) % 256) as u8)?;
+        let is_grown = bytes.push((next(&mut walk.seed) % 256) as u8).is_ok();
+        must(rt, is_grown, "memory");
     }
     let pool = pick_pool(&mut walk.seed);
     if let Some(packet) = receive(rt, m, pool, &bytes) {
-        walk.shadows.push(Shadow { packet, bytes })?;
+        keep(rt, walk, packet, bytes);
     }
-    Ok(())
 }
 
-fn walk_alloc(alloc_in: Global, m: &mut Mbufs, walk: &mut Walk) -> Grown
+fn walk_alloc(rt: &impl Abort, alloc_in: Global, m: &mut Mbufs, walk: &mut Walk)
     requires { IsOver m.old.store }
     ensures { StaysOver m.old m.new }
 {
     let pool = pick_pool(&mut walk.seed);
     if let Some(packet) = alloc(m, pool) {
         let bytes = Vec::new(alloc_in);
-        walk.shadows.push(Shadow { packet, bytes })?;
+        keep(rt, walk, packet, bytes);
     }
-    Ok(())
 }
 
 // Clones a packet with these bytes.
-fn walk_copy(
-    rt: &impl Abort,
-    m: &mut Mbufs,
-    walk: &mut Walk,
-    source: Packet,
-    bytes: Vec<u8>,
-) -> Grown
+fn walk_copy(rt: &impl Abort, m: &mut Mbufs, walk: &mut Walk, source: Packet, bytes: Vec<u8>)
     requires { IsOver m.old.store }
     ensures { StaysOver m.old m.new }
 {
@@ -108,9 +104,8 @@ fn walk_copy(
         if pool_of(&source) != pool {
             walk.clones = walk.clones.saturating_add(1);
         }
-        walk.shadows.push(Shadow { packet, bytes })?;
+        keep(rt, walk, packet, bytes);
     }
-    Ok(())
 }
 
 fn walk_free(rt: &impl Abort, m: &mut Mbufs, walk: &mut Walk)
@@ -126,37 +121,35 @@ fn walk_free(rt: &impl Abort, m: &mut Mbufs, walk: &mut Walk)
     }
 }
 
-// Appends zeros, if the last buffer has one reference.
-fn walk_append(rt: &impl Abort, m: &mut Mbufs, shadow: &mut Shadow, seed: &mut u64) -> Grown
+// Puts zeros before the packet or after it, if the buffer there has one reference.
+fn walk_extend(rt: &impl Abort, m: &mut Mbufs, shadow: &mut Shadow, seed: &mut u64, end: End)
     requires { IsOver m.old.store }
     ensures { StaysOver m.old m.new }
 {
     let packet = shadow.packet;
     let count = segments(rt, m, &packet);
-    if count > 0 && refs(rt, m, &packet, count - 1) == 1 {
-        let n = pick_up_to(seed, rooms(rt, m, &packet).1);
-        extend(rt, m, &packet, End::Back, n);
-        for _ in 0..n {
-            shadow.bytes.push(0)?;
-        }
+    let segment = match end {
+        End::Front => 0,
+        End::Back => count.saturating_sub(1),
+    };
+    if count == 0 || refs(rt, m, &packet, segment) != 1 {
+        return;
     }
-    Ok(())
-}
-
-// Prepends zeros, if the first buffer has one reference.
-fn walk_prepend(rt: &impl Abort, m: &mut Mbufs, shadow: &mut Shadow, seed: &mut u64) -> Grown
-    requires { IsOver m.old.store }
-    ensures { StaysOver m.old m.new }
-{
-    let packet = shadow.packet;
-    if refs(rt, m, &packet, 0) == 1 {
-        let n = pick_up_to(seed, rooms(rt, m, &packet).0);
-        extend(rt, m, &packet, End::Front, n);
-        for _ in 0..n {
-            shadow.bytes.insert(0, 0)?;
-        }
+    let (head, tail, _, _) = rooms(rt, m, &packet);
+    let room = match end {
+        End::Front => head,
+        End::Back => tail,
+    };
+    let n = pick_up_to(seed, room);
+    extend(rt, m, &packet, end, n);
+    for _ in 0..n {
+        let at = match end {
+            End::Front => 0,
+            End::Back => shadow.bytes.len(),
+        };
+        let is_grown = shadow.bytes.insert(at, 0).is_ok();
+        must(rt, is_grown, "memory");
     }
-    Ok(())
 }
 
 // Cuts bytes off at one end.
@@ -215,87 +208,76 @@ fn walk_store(rt: &impl Abort, m: &mut Mbufs, shadow: &mut Shadow, seed: &mut u6
 }
 
 // Appends the second packet to the first.
-fn join(rt: &impl Abort, m: &mut Mbufs, head: &mut Shadow, tail: &Shadow) -> Grown
+fn join(rt: &impl Abort, m: &mut Mbufs, head: &mut Shadow, tail: &Shadow)
     requires { IsOver m.old.store }
     ensures { StaysOver m.old m.new }
 {
     chain(rt, m, &head.packet, tail.packet);
-    head.bytes.extend_from_slice(&tail.bytes)
+    let is_grown = head.bytes.extend_from_slice(&tail.bytes).is_ok();
+    must(rt, is_grown, "memory");
 }
 
-fn walk_chain(rt: &impl Abort, m: &mut Mbufs, walk: &mut Walk) -> Grown
+fn walk_chain(rt: &impl Abort, m: &mut Mbufs, walk: &mut Walk)
     requires { IsOver m.old.store }
     ensures { StaysOver m.old m.new }
 {
     if walk.shadows.len() < 2 {
-        return Ok(());
+        return;
     }
     let i = pick(&mut walk.seed, walk.shadows.len());
     let tail = walk.shadows.swap_remove(i);
     let j = pick(&mut walk.seed, walk.shadows.len());
     let head = walk.shadows[j].packet;
     if segments(rt, m, &head) > 30 || segments(rt, m, &tail.packet) > 30 {
-        return Ok(walk.shadows.push(tail)?);
+        return keep(rt, walk, tail.packet, tail.bytes);
     }
     if pool_of(&head) != pool_of(&tail.packet) {
         walk.chains = walk.chains.saturating_add(1);
     }
-    join(rt, m, &mut walk.shadows[j], &tail)
+    join(rt, m, &mut walk.shadows[j], &tail);
 }
 
 // Changes one packet.
-fn walk_change(rt: &impl Abort, m: &mut Mbufs, shadow: &mut Shadow, seed: &mut u64) -> Grown
+fn walk_change(rt: &impl Abort, m: &mut Mbufs, shadow: &mut Shadow, seed: &mut u64)
     requires { IsOver m.old.store }
     ensures { StaysOver m.old m.new }
 {
     match next(seed) % 5 {
-        0 => walk_append(rt, m, shadow, seed),
-        1 => walk_prepend(rt, m, shadow, seed),
-        2 => {
-            walk_cut(rt, m, shadow, seed, End::Front);
-            Ok(())
-        }
-        3 => {
-            walk_cut(rt, m, shadow, seed, End::Back);
-            Ok(())
-        }
-        _ => {
-            walk_store(rt, m, shadow, seed);
-            Ok(())
-        }
+        0 => walk_extend(rt, m, shadow, seed, End::Back),
+        1 => walk_extend(rt, m, shadow, seed, End::Front),
+        2 => walk_cut(rt, m, shadow, seed, End::Front),
+        3 => walk_cut(rt, m, shadow, seed, End::Back),
+        _ => walk_store(rt, m, shadow, seed),
     }
 }
 
 // Clones one packet, or changes it.
-fn walk_one(rt: &impl Abort, m: &mut Mbufs, walk: &mut Walk, is_cloned: bool) -> Grown
+fn walk_one(rt: &impl Abort, m: &mut Mbufs, walk: &mut Walk, is_cloned: bool)
     requires { IsOver m.old.store }
     ensures { StaysOver m.old m.new }
 {
     if walk.shadows.is_empty() {
-        return Ok(());
+        return;
     }
     let i = pick(&mut walk.seed, walk.shadows.len());
     if is_cloned {
-        let bytes = walk.shadows[i].bytes.clone()?;
+        let bytes = walk.shadows[i].bytes.clone().expect(rt, "memory");
         let source = walk.shadows[i].packet;
         return walk_copy(rt, m, walk, source, bytes);
     }
-    walk_change(rt, m, &mut walk.shadows[i], &mut walk.seed)
+    walk_change(rt, m, &mut walk.shadows[i], &mut walk.seed);
 }
 
-fn step(rt: &impl Abort, alloc: Global, m: &mut Mbufs, walk: &mut Walk) -> Grown
+fn step(rt: &impl Abort, alloc: Global, m: &mut Mbufs, walk: &mut Walk)
     requires { IsOver m.old.store }
     ensures { StaysOver m.old m.new }
 {
     match next(&mut walk.seed) % 12 {
         0 | 1 => walk_receive(rt, alloc, m, walk),
-        2 => walk_alloc(alloc, m, walk),
+        2 => walk_alloc(rt, alloc, m, walk),
         3 | 4 => walk_one(rt, m, walk, true),
         5 => walk_chain(rt, m, walk),
-        6 | 7 => {
-            walk_free(rt, m, walk);
-            Ok(())
-        }
+        6 | 7 => walk_free(rt, m, walk),
         _ => walk_one(rt, m, walk, false),
     }
 }
@@ -320,7 +302,7 @@ fn walk_all(rt: &impl Abort, alloc: Global, m: &mut Mbufs)
         chains: 0,
     };
     for _ in 0..10000 {
-        step(rt, alloc, m, &mut walk).expect(rt, "memory");
+        step(rt, alloc, m, &mut walk);
         compare(rt, m, &walk.shadows);
     }
     let is_mixed = walk.clones > 100 && walk.chains > 100;
