@@ -127,9 +127,10 @@ COMMANDS = [
 
 
 def ended_by(words: list[str], shim: pathlib.Path, number: int) -> Ended:
-    """How a command ends with an allocation refused. What it prints of verdicts with --json is a document of facts, which is compared as `dpv` says it."""
+    """How a command ends with an allocation refused. What it prints of verdicts with --json and of a trace are documents of facts, which are compared
+    as `dpv` says them."""
     ended = Ended(words, shim, number)
-    if ended.printed.startswith(b'{"view":"report"'):
+    if ended.printed.startswith((b'{"view":"report"', b'{"view":"trace"')):
         ended.printed, _ = said_bytes(ended.printed)
     return ended
 
