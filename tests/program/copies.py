@@ -266,7 +266,7 @@ def truncated() -> Iterator[Case]:
 
 
 class Failing(NamedTuple):
-    """From one number of bytes up to another, without that: of HUNDRED come so many, and then the reader fails; how many records are read, and how
+    """From one number of bytes up to another, without that: of HUNDRED that many come, and then the reader fails; how many records are read, and how
     many bytes are copied."""
 
     first: int

@@ -280,7 +280,7 @@ SENDS_THREE = f"{FIRST_FIVE}alloc p2,0,b\ntx p1,r0,a\ntx p2,r0,d\ntx p0,r0,c\nex
 
 class Failing(NamedTuple):
     """A pipeline of one port whose program sends several packets for a record, what it sends, and its allocation calls; a writer that takes this many
-    bytes at once, and fails after each of these numbers of bytes behind the header of the capture."""
+    bytes at once, and fails after each of these numbers of bytes after the header of the capture."""
 
     world: World
     program: str
@@ -353,13 +353,13 @@ def played(program: str, folder: pathlib.Path, is_compiled: bool = False) -> Cas
 
 
 def whole_in(records: Sequence[bytes], left: int) -> int:
-    """How many of these records are whole within this number of bytes behind a header."""
+    """How many of these records are whole within this number of bytes after a header."""
     ends = [sum(16 + len(it) for it in records[: k + 1]) for k in range(len(records))]
     return sum(end <= left for end in ends)
 
 
 def failed(program: str, folder: pathlib.Path, row: Failing, library: str, left: int) -> tuple[int, str, str, bytes]:
-    """How a run ends whose output takes this number of bytes behind the header, and fails then."""
+    """How a run ends whose output takes this number of bytes after the header, and fails then."""
     hard = resource.getrlimit(resource.RLIMIT_FSIZE)[1]
     around = os.environ | {"LD_PRELOAD": library, "MOST": str(row.most)}
     resource.setrlimit(resource.RLIMIT_FSIZE, (len(HEADER) + left, hard))
