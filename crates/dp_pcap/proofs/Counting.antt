@@ -1,5 +1,5 @@
 -- Counting whole records: the count after more bytes.
-use Rattle.std.proofs.Common.{◌≡◌, ◌≢◌, ℕ, zero, suc, ◌+◌, ◌^◌, ◌<◌, ◌≤◌, List, [], ◌++◌, length, take, refl, sym, ◌∙◌, inl, inr, arith}
+use Rattle.std.proofs.Common.{◌≡◌, ◌≢◌, ℕ, zero, suc, ◌+◌, ◌^◌, ◌<◌, ◌≤◌, List, [], ◌++◌, length, take, refl, sym, ap, ◌∙◌, inl, inr, arith}
 use Rattle.std.proofs.Common.{length-append, length-take, append_assoc, append-nil, take_all, drop}
 use Rattle.std.proofs.lemmas.List.{take-append-drop, take-take, length-take-le, length-drop}
 use Rattle.std.proofs.lemmas.Slice.{take-put_mid}
@@ -10,6 +10,7 @@ use Rattle.dp_pcap.specs.declared.time.Unit.{Unit as TimeUnit}
 use Rattle.dp_pcap.specs.Capture.{captured, number, IsHeader}
 use Rattle.dp_pcap.specs.Counting.{Counted, ArePieces, IsPart, IsAfter, none_left}
 use Rattle.std.proofs.Math.Seq.{take-add}
+use Rattle.dp_pcap.proofs.Pieces.{take_more-put_mid}
 
 -- ---- the order
 
@@ -83,6 +84,30 @@ head_whole o pieces left head before more full is_long any b = record {
   pieces = b.pieces;
   is_part = part_begun o pieces left head b.part more full is_long any b.is_part;
 }
+
+-- a part of it
+part_grows : (o : Order) (n : ℕ) (head part more : List ℕ) → length (head ++ more) < 16 → IsPart o n 0 head part → IsPart o n 0 (head ++ more) (part ++ more)
+part_grows o zero head part more few (none, some, all) = absurd (omega arith)
+part_grows o (suc n) head part more few (inl (none, less, same)) = inl (refl, few, rw same)
+part_grows o (suc n) head part more few (inr (some, none, inside)) = absurd (omega arith)
+
+pub head_grows : (o : Order) (pieces none came k n : ℕ) (xs ys before bytes : List ℕ) → none ≡ 0 → came + n < 16 → came ≤ length xs → n ≤ length bytes →
+    ys ≡ take n bytes
+    → IsAfter (record { order = o; pieces = pieces; left = none; head = take came xs }) before →
+    IsAfter (record { order = o; pieces = pieces; left = none; head = take (came + n) (put_mid came k xs ys) }) (before ++ take n bytes)
+head_grows o pieces none came k n xs ys before bytes was few there within same b =
+    let more = take n bytes in
+    let size : length ys ≡ n = ap length same ∙ length-take-le n bytes within in
+    let now : take (came + n) (put_mid came k xs ys) ≡ take came xs ++ more =
+    take_more-put_mid came k n xs ys there (omega (arith, size)) ∙ ap (λ l. take came xs ++ l) (take_all n ys (omega (arith, size)) ∙ same) in
+    rw (was, now) record {
+      whole = b.whole;
+      part = b.part ++ more;
+      split = rw b.split (append_assoc b.whole b.part more);
+      pieces = b.pieces;
+      is_part = part_grows o pieces (take came xs) b.part more (omega (arith, length-append (take came xs) more, length-take came xs, length-take n bytes))
+          (rw was at b.is_part);
+    }
 
 one_empty : (o : Order) (n : ℕ) (head whole part before more : List ℕ) → ArePieces o n whole → IsPart o n 0 head part → before ≡ whole ++ part →
     length head + length more ≡ 16

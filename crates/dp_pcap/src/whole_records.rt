@@ -45,7 +45,6 @@ fn body_length(order: Order, head: &[u8]) -> u32
 }
 
 // The byte order of a header: the one in which its version is 2.
-#[tactic(auto, using(crate::proofs::Counting::version_little))]
 fn order_of(header: &[u8]) -> Order
     requires { MINOR_AT ≤ length header.now }
     ensures { (order : Order) (unit : TimeUnit) → IsHeader order unit header.now → result ≡ order }

@@ -1,10 +1,11 @@
 -- `put_two`: a head and then a body.
-use Rattle.std.proofs.Common.{rules, inr}
+use Rattle.std.proofs.Common.{rules, inr, arith}
 use Rattle.std.proofs.lemmas.Result.{on_ok_weaker, on_err_weaker}
 use Rattle.std.proofs.KnownBytes.{Appends-trans}
 use Rattle.std.specs.Io.KnownBytes.{Appends}
 use Rattle.dp_pcap.specs.Laws.Chaining.{AppendsPart-after}
 use Rattle.dp_pcap.specs.Offering.{OffersWhole}
+use Rattle.std.proofs.lemmas.Grind.{common_steps}
 use Rattle.dp_pcap.proofs.writing.put_two.Goals as goal
 
 pub returns : goal.returns
@@ -22,3 +23,6 @@ returns g c =
       offered = on_ok_weaker c.put-2.result (λ whole. (_, offered, whole)) body.offered;
       offered_part = on_err_weaker c.put-2.result (λ part. inr (_, offered, part)) body.offered_part;
     }
+
+pub returns-in_err-put : goal.returns-in_err-put
+returns-in_err-put g c = grind (arith, common_steps)

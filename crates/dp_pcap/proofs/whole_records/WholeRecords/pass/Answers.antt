@@ -1,5 +1,5 @@
 -- `pass`: one step more, and what it went by.
-use Rattle.std.proofs.Common.{rules, ◌++◌, take, ◌∙◌, arith, append_assoc}
+use Rattle.std.proofs.Common.{rules, ◌++◌, take, ◌∙◌, arith, append_assoc, take_all}
 use Rattle.dp_pcap.proofs.Pieces.{take_more-rest}
 use Rattle.dp_pcap.proofs.whole_records.WholeRecords.pass.Goals as goal
 
@@ -15,3 +15,7 @@ loop-at-preserved c =
       beyond = λ few before b. rw (take_more-rest at c.step-at.result bytes)
           (rw append_assoc at (stepped.beyond (search rules) (before ++ take at bytes) (c.loop-at.invariant.beyond few before b)));
     }
+
+pub returns-clause-beyond : goal.returns-clause-beyond
+returns-clause-beyond c = λ few before b.
+    rw (take_all c.loop-at.at c.args.bytes.now c.loop-at-test.false) at (c.loop-at.invariant.beyond few before b)

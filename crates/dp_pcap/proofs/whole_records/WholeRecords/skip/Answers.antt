@@ -2,6 +2,7 @@
 use Rattle.std.proofs.Common.{rules, ◌≡◌, ◌≤◌, ◌-◌, length, take, subst, sym, ap, arith}
 use Rattle.dp_pcap.specs.Counting.{Counted, IsAfter}
 use Rattle.dp_pcap.proofs.Counting.{completes}
+use Rattle.std.proofs.lemmas.Grind.{common_steps}
 use Rattle.dp_pcap.proofs.whole_records.WholeRecords.skip.Goals as goal
 
 pub returns-then-self-eq0 : goal.returns-then-self-eq0
@@ -21,3 +22,6 @@ returns-then-self-eq0 c = record {
       (take c.self.inside.came c.self.inside.head) before c.args.bytes.now (omega (arith, c.saturating_add-self-inside.ensures, few, same)) none
       (omega (arith, none, most)) within (omega (arith, left, c.requires.left)) (subst (λ v. IsAfter v before) (sym c.self.view_is) b);
 }
+
+pub returns-else-self-eq0 : goal.returns-else-self-eq0
+returns-else-self-eq0 c = grind (arith, common_steps)

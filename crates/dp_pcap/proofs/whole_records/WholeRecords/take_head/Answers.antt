@@ -2,7 +2,7 @@
 use Rattle.std.proofs.Common.{rules, refl, ◌≡◌, ◌∙◌, ◌+◌, ◌-◌, subst, sym, ap, arith}
 use Rattle.dp_pcap.specs.Capture.{number}
 use Rattle.dp_pcap.specs.Counting.{Counted, IsAfter}
-use Rattle.dp_pcap.proofs.Counting.{IsHead, head_ends, head_goes_on}
+use Rattle.dp_pcap.proofs.Counting.{IsHead, head_ends, head_goes_on, head_grows}
 use Rattle.dp_pcap.proofs.whole_records.WholeRecords.take_head.Goals as goal
 use Rattle.dp_pcap.proofs.whole_records.WholeRecords.take_head.Goals.{After-body_length}
 
@@ -45,4 +45,17 @@ returns-else-self-eq0 c = record {
   beyond = λ few before b.
       let opened = (goal.at.returns-else-self-eq0 c).After-body_length in
       head_goes_on before (none opened) refl (head opened) (subst (λ v. IsAfter v before) (sym c.self.view_is) b) (search rules);
+}
+
+pub returns-else-self-eq-HEAD_SIZE : goal.returns-else-self-eq-HEAD_SIZE
+returns-else-self-eq-HEAD_SIZE c = record {
+  some = search rules;
+  most = search rules;
+  order = search rules;
+  pieces = search rules;
+  beyond = λ few before b.
+      let none : c.self.inside.left ≡ 0 = ap (λ (v : Counted). v.left) c.self.view_is ∙ c.requires.none in
+      head_grows _ _ _ c.self.inside.came _ c.min-taken.result c.self.inside.head _ before c.args.bytes.now none (search rules)
+      (omega (arith, c.self.invariant.0, c.self.invariant.1)) (search rules) (search rules)
+      (subst (λ v. IsAfter v before) (sym c.self.view_is) b);
 }
