@@ -2,6 +2,7 @@
 
 ghost use Rattle.std.specs.Prelude.{◌≡◌, Some};
 ghost use Rattle.dp_model.specs.Needs.{amount, bytes_at, needs, nothing, packet_in};
+ghost use Rattle.dp_model.specs.declared.needs.Target.TheVariants.{Distinct, Vacant};
 
 use crate::by_instr;
 use crate::instr::Instr;
@@ -9,7 +10,7 @@ use crate::needs::Measure::{First, Headroom, Last, Tailroom};
 use crate::registers::{NumberRegister, PacketRegister, Width};
 
 /// A room or a length of a packet, in bytes.
-#[derive(Clone, Copy, PartialEq, Eq)]
+#[derive(Clone, Copy)]
 pub enum Measure {
     /// The room before the first segment's data.
     Headroom,
@@ -87,26 +88,42 @@ fn packet_in(packet: PacketRegister) -> Needs
     }
 }
 
-/// This number of bytes of this part.
-fn amount(part: Measure, count: u16) -> Option<Bytes>
-    ensures { result ≡ amount part count }
+/// A packet in this register with this room or this length, where this part is written.
+fn room_in(packet: PacketRegister, part: Measure, count: u16, written: Option<Written>) -> Needs
+    ensures { result ≡ record (packet_in packet) { bytes = amount part count; written = written } }
 {
-    Some(Bytes {
-        part,
-        index: None,
-        count: u32::from(count),
-    })
+    Needs {
+        packet: Some(packet),
+        bytes: Some(Bytes {
+            part,
+            index: None,
+            count: u32::from(count),
+        }),
+        written,
+        ..NOTHING
+    }
 }
 
-/// The bytes of a load or a store at this offset.
-fn bytes_at(index: Option<NumberRegister>, offset: u16, width: Width) -> Option<Bytes>
-    ensures { result ≡ bytes_at index offset width }
+/// A packet in this register with the bytes of a load or a store at this offset, where this part is written.
+fn bytes_in(
+    packet: PacketRegister,
+    index: Option<NumberRegister>,
+    offset: u16,
+    width: Width,
+    written: Option<Written>,
+) -> Needs
+    ensures { result ≡ record (packet_in packet) { bytes = bytes_at index offset width; written = written } }
 {
-    Some(Bytes {
-        part: First,
-        index,
-        count: u32::from(offset) + u32::from(width.bytes()),
-    })
+    Needs {
+        packet: Some(packet),
+        bytes: Some(Bytes {
+            part: First,
+            index,
+            count: u32::from(offset) + u32::from(width.bytes()),
+        }),
+        written,
+        ..NOTHING
+    }
 }
 
 /// A packet in this register, and this label.
@@ -114,8 +131,9 @@ fn or_else(packet: PacketRegister, label: u16) -> Needs
     ensures { result ≡ record (packet_in packet) { label = Some label } }
 {
     Needs {
+        packet: Some(packet),
         label: Some(label),
-        ..packet_in(packet)
+        ..NOTHING
     }
 }
 
@@ -129,6 +147,30 @@ fn to_label(label: u16) -> Needs
     }
 }
 
+/// This register is empty, the other holds a packet, if there is one, and this label.
+fn vacant(into: PacketRegister, from: Option<PacketRegister>, label: u16) -> Needs
+    ensures { result ≡ record nothing { packet = from; target = Some (Vacant into); label = Some label } }
+{
+    Needs {
+        packet: from,
+        target: Some(Target::Vacant(into)),
+        label: Some(label),
+        ..NOTHING
+    }
+}
+
+/// Packets in both registers, which differ.
+fn both_in(front: PacketRegister, back: PacketRegister) -> Needs
+    ensures { result ≡ record (packet_in front) { other = Some back; target = Some (Distinct front back) } }
+{
+    Needs {
+        packet: Some(front),
+        other: Some(back),
+        target: Some(Target::Distinct(front, back)),
+        ..NOTHING
+    }
+}
+
 impl Instr {
     /// What the instruction needs of the row before it, and the label that it names.
     #[inline(always)]
@@ -136,26 +178,25 @@ impl Instr {
         ensures { result ≡ needs self }
     {
         by_instr! { self;
-            Alloc: { into, refused, .. } => Needs { target: Some(Target::Vacant(into)), ..to_label(refused) };
-            Clone: { into, from, refused, .. } => Needs { target: Some(Target::Vacant(into)), ..or_else(from, refused) };
+            Alloc: { into, refused, .. } => vacant(into, None, refused);
+            Clone: { into, from, refused, .. } => vacant(into, Some(from), refused);
             Free: { packet } => packet_in(packet);
             IfHead | IfTail | IfLen | IfLast: { packet, less, .. } => or_else(packet, less);
             Tx | Enq: { packet, full, .. } => or_else(packet, full);
-            Prepend: { packet, count } => Needs { bytes: amount(Headroom, count), written: Some(Written::Head), ..packet_in(packet) };
-            Adj: { packet, count } => Needs { bytes: amount(First, count), ..packet_in(packet) };
-            Append: { packet, count } => Needs { bytes: amount(Tailroom, count), written: Some(Written::Tail), ..packet_in(packet) };
-            Trim: { packet, count } => Needs { bytes: amount(Last, count), ..packet_in(packet) };
-            Chain: { front, back } => Needs { other: Some(back), target: Some(Target::Distinct(front, back)), ..packet_in(front) };
-            Load: { packet, offset, width, .. } => Needs { bytes: bytes_at(None, offset, width), ..packet_in(packet) };
-            Store: { packet, offset, width, .. } => Needs { bytes: bytes_at(None, offset, width), written: Some(Written::Head), ..packet_in(packet) };
-            LoadX: { packet, index, offset, width, .. } => Needs { bytes: bytes_at(Some(index), offset, width), ..packet_in(packet) };
-            StoreX: { packet, index, offset, width, .. } =>
-                Needs { bytes: bytes_at(Some(index), offset, width), written: Some(Written::Head), ..packet_in(packet) };
+            Prepend: { packet, count } => room_in(packet, Headroom, count, Some(Written::Head));
+            Adj: { packet, count } => room_in(packet, First, count, None);
+            Append: { packet, count } => room_in(packet, Tailroom, count, Some(Written::Tail));
+            Trim: { packet, count } => room_in(packet, Last, count, None);
+            Chain: { front, back } => both_in(front, back);
+            Load: { packet, offset, width, .. } => bytes_in(packet, None, offset, width, None);
+            Store: { packet, offset, width, .. } => bytes_in(packet, None, offset, width, Some(Written::Head));
+            LoadX: { packet, index, offset, width, .. } => bytes_in(packet, Some(index), offset, width, None);
+            StoreX: { packet, index, offset, width, .. } => bytes_in(packet, Some(index), offset, width, Some(Written::Head));
             Jmp: { to } => to_label(to);
             Jeq: { equal, .. } => to_label(equal);
             Jlt: { below, .. } => to_label(below);
             Lookup: { missed, .. } => to_label(missed);
-            Set | Mov | Add | Sub | And | Or | Xor | Shl | Shr | Exit: { .. } => NOTHING;
+            _ => NOTHING;
         }
     }
 }
