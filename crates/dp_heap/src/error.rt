@@ -2,19 +2,17 @@
 ghost use Rattle.std.specs.Prelude.{◌≡◌};
 ghost use Rattle.dp_heap.specs.Refusals.{number_of};
 
-use thiserror::Error;
+use std::error::Error;
+use std::fmt;
 
 /// Why `malloc` and `zmalloc` refuse a request. If several causes apply, the first is returned.
-#[derive(Clone, Copy, Debug, PartialEq, Eq, Error)]
+#[derive(Clone, Copy, Debug)]
 pub enum HeapError {
     /// The requested size is 0.
-    #[error("the size is 0")]
     ZeroSize,
     /// The alignment is neither 0 nor a power of two.
-    #[error("the alignment is neither 0 nor a power of two")]
     BadAlign,
     /// No free element has room for the block.
-    #[error("no free element can hold the block")]
     NoRoom,
 }
 
@@ -30,3 +28,15 @@ impl HeapError {
         }
     }
 }
+
+impl fmt::Display for HeapError {
+    fn fmt<W: fmt::Write>(&self, f: &mut fmt::Formatter<W>) -> fmt::Result {
+        f.write_str(match self {
+            HeapError::ZeroSize => "the size is 0",
+            HeapError::BadAlign => "the alignment is neither 0 nor a power of two",
+            HeapError::NoRoom => "no free element can hold the block",
+        })
+    }
+}
+
+impl Error for HeapError {}

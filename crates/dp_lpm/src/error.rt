@@ -1,31 +1,48 @@
 //! Why a table is not made, or refuses a call.
 
-use thiserror::Error;
+use std::error::Error;
+use std::fmt;
 
 /// The allocator refused the memory for a table.
-#[derive(Clone, Copy, Debug, Error)]
-#[error("not enough memory")]
+#[derive(Clone, Copy, Debug)]
 pub struct Memory;
 
+impl fmt::Display for Memory {
+    fn fmt<W: fmt::Write>(&self, f: &mut fmt::Formatter<W>) -> fmt::Result {
+        f.write_str("not enough memory")
+    }
+}
+
+impl Error for Memory {}
+
 /// Why `add` and `delete` refuse.
-#[derive(Clone, Copy, Debug, PartialEq, Eq, Error)]
+#[derive(Clone, Copy, Debug, PartialEq, Eq)]
 pub enum LpmError {
     /// The depth is not from 1 to 32.
-    #[error("the depth is not 1 to 32")]
     BadDepth,
     /// The hop is above 16,777,215.
-    #[error("the hop is above 16777215")]
     BadHop,
     /// The table has as many rules as it was made for.
-    #[error("no room for another rule")]
     RulesFull,
     /// The rule is deeper than 24 bits, its first 24 bits have no group, and no group is free.
-    #[error("no group left")]
     GroupsFull,
     /// There is no rule of this prefix and depth.
-    #[error("no such rule")]
     NoRule,
 }
+
+impl fmt::Display for LpmError {
+    fn fmt<W: fmt::Write>(&self, f: &mut fmt::Formatter<W>) -> fmt::Result {
+        f.write_str(match self {
+            LpmError::BadDepth => "the depth is not 1 to 32",
+            LpmError::BadHop => "the hop is above 16777215",
+            LpmError::RulesFull => "no room for another rule",
+            LpmError::GroupsFull => "no group left",
+            LpmError::NoRule => "no such rule",
+        })
+    }
+}
+
+impl Error for LpmError {}
 
 impl LpmError {
     ghost use Rattle.std.specs.Prelude.{◌≡◌};

@@ -1,4 +1,5 @@
 -- The group of the first bits has one rule fewer, perhaps none.
+use Rattle.std.proofs.lemmas.Grind.{common_steps}
 use Rattle.std.proofs.Common.{◌≡◌, ◌-◌, ◌*◌, refl, sym, ◌∙◌, ap, arith, length-set}
 use Rattle.std.specs.Vec.{with_item}
 use Rattle.std.specs.Prelude.{slice_set}
@@ -50,3 +51,21 @@ returns-else-index-eq0 c =
     let set = index_set_same old.counts.items g (c.index_mut.result.now - 1) there in
     closed_more old new c.args.first g c.index_mut.result.now c.requires.table named refl refl is (omega (arith, now, set, c.if-index-eq0.false)) refl
     (refl, refl, refl)
+
+pub overflow_sub-index_mut : goal.overflow_sub-index_mut
+overflow_sub-index_mut c = grind (arith, common_steps)
+
+pub index-requires-in-Group : goal.index-requires-in-Group
+index-requires-in-Group c = grind (arith, common_steps)
+
+pub index_mut-requires : goal.index_mut-requires
+index_mut-requires c = grind (arith, common_steps)
+
+pub index-requires-then-index-eq0 : goal.index-requires-then-index-eq0
+index-requires-then-index-eq0 c = grind (arith, common_steps)
+
+pub overflow_mul-group : goal.overflow_mul-group
+overflow_mul-group c = grind (arith, common_steps)
+
+pub returns-in_default : goal.returns-in_default
+returns-in_default c = grind (arith, common_steps)
