@@ -7,9 +7,7 @@ use Rattle.dp_cert.specs.declared.error.Fault.{Fault}
 use Rattle.dp_cert.specs.declared.error.Cause.{Cause}
 use Rattle.dp_cert.specs.declared.error.Cause.TheVariants.{BadCount}
 use Rattle.dp_cert.specs.declared.cert.Version.{Version}
-use Rattle.dp_cert.specs.declared.error.CertError.{CertError}
-use Rattle.dp_cert.specs.declared.error.CertError.TheVariants as errors
-use Rattle.dp_cert.specs.Reading.{◌>>=◌, onto, at_line, row_of, rows_of, Fails}
+use Rattle.dp_cert.specs.Reading.{◌>>=◌, onto, at_line, row_of, rows_of}
 
 abbrev pub prepend : List Row → Result (List Row) Fault → Result (List Row) Fault
 prepend front read = read >>= λ rows. Ok (front ++ rows)
@@ -26,7 +24,7 @@ module _ (version : Version) where
   one_row line n (b ∷ bytes) read lt e = rw e refl
 
   pub goes_on : (front : List Row) (n i : ℕ) (rest : List ℕ) (row : Row) (total : Result (List Row) Fault) → i < n → 0 < length rest →
-      at_line (i + 2) (row_of version (take 307 rest)) ≡ Ok row
+      row_of version (take 307 rest) ≡ Ok row
       → prepend front (rows_of version (i + 2) (n - i) rest) ≡ total → prepend (front ++ row ∷ []) (rows_of version (i + 1 + 2) (n - (i + 1)) (drop 307 rest))
       ≡ total
   goes_on front n i rest row total lt some e so_far =
@@ -37,12 +35,12 @@ module _ (version : Version) where
       (regroup front row (rows_of version (i + 1 + 2) (n - (i + 1)) (drop 307 rest))) in
       sym one ∙ so_far
 
-  pub bad_row : (front : List Row) (n i : ℕ) (rest : List ℕ) (error : CertError) (total : Result (List Row) Fault) → i < n → 0 < length rest →
-      Fails error (at_line (i + 2) (row_of version (take 307 rest))) → prepend front (rows_of version (i + 2) (n - i) rest) ≡ total → Fails error total
-  bad_row front n i rest errors.Memory total lt some bad so_far = tt
-  bad_row front n i rest (errors.Fault fault) total lt some bad so_far =
+  pub bad_row : (front : List Row) (n i : ℕ) (rest : List ℕ) (cause : Cause) (total : Result (List Row) Fault) → i < n → 0 < length rest →
+      row_of version (take 307 rest) ≡ Err cause → prepend front (rows_of version (i + 2) (n - i) rest) ≡ total
+      → total ≡ Err (record { line = i + 2; cause = cause })
+  bad_row front n i rest cause total lt some bad so_far =
       let k : n - i ≡ suc (n - (i + 1)) = omega arith in
-      let one : prepend front (rows_of version (i + 2) (n - i) rest) ≡ Err fault =
+      let one : prepend front (rows_of version (i + 2) (n - i) rest) ≡ Err (record { line = i + 2; cause = cause }) =
       rw (k, one_row (i + 2) (n - (i + 1)) rest (row_of version (take 307 rest)) some refl, bad) refl in
       sym so_far ∙ one
 

@@ -42,24 +42,15 @@ fn is_line(line: &[u8]) -> bool
     are_digits(digits_in(line)) && line[line.len() - 1] == b'\n'
 }
 
-/// Parses one line as a row, if the line spells it and the version may have it.
-fn spelled_row(
-    alloc: Global,
-    version: Version,
-    number: usize,
-    line: &[u8],
-    row: Row,
-) -> Result<Row, CertError>
-    ensures { spec.Gives (λ row. row) result (spec.at_line number (spec.spelled_row version line.now row)) }
+/// The row, if the line spells it and the version may have it.
+fn spelled_row(version: Version, line: &[u8], row: Row) -> Result<Row, Cause>
+    ensures { result ≡ spec.spelled_row version line.now row }
 {
-    let spelled = row_line(alloc, &row).map_err(|_| CertError::Memory)?;
+    let spelled = row_line(&row);
     if spelled.as_slice() == line && version.can_have(&row) {
         Ok(row)
     } else {
-        Err(CertError::Fault(Fault {
-            line: number,
-            cause: Cause::BadRow,
-        }))
+        Err(Cause::BadRow)
     }
 }
 
@@ -74,23 +65,17 @@ fn bytes_of(digits: &[u8]) -> Option<[u8; 153]>
     }
 }
 
-/// Parses one line, or returns the fault with the line's number.
+/// Parses one line, or says what is wrong with it.
 #[tactic(auto, unfolding(crate::specs::Reading::row_of))]
-fn row_of(alloc: Global, version: Version, number: usize, line: &[u8]) -> Result<Row, CertError>
-    ensures { spec.Gives (λ row. row) result (spec.at_line number (spec.row_of version line.now)) }
+fn row_of(version: Version, line: &[u8]) -> Result<Row, Cause>
+    ensures { result ≡ spec.row_of version line.now }
 {
     if !is_line(line) {
-        return Err(CertError::Fault(Fault {
-            line: number,
-            cause: Cause::BadLine,
-        }));
+        return Err(Cause::BadLine);
     }
     match bytes_of(digits_in(line)) {
-        Some(bytes) => spelled_row(alloc, version, number, line, row_in(&bytes)),
-        None => Err(CertError::Fault(Fault {
-            line: number,
-            cause: Cause::BadLine,
-        })),
+        Some(bytes) => spelled_row(version, line, row_in(&bytes)),
+        None => Err(Cause::BadLine),
     }
 }
 
@@ -108,8 +93,13 @@ fn rows_of(alloc: Global, version: Version, n: usize, text: &[u8]) -> Result<Vec
             }));
         }
         let (line, after) = rest.split_at(rest.len().min(307));
-        let row = row_of(alloc, version, i + 2, line)?;
-        rows.push(row).map_err(|_| CertError::Memory)?;
+        let row = match row_of(version, line) {
+            Ok(row) => row,
+            Err(cause) => return Err(CertError::Fault(Fault { line: i + 2, cause })),
+        };
+        if rows.push(row).is_err() {
+            return Err(CertError::Memory);
+        }
         rest = after;
     }
     if rest.is_empty() {
@@ -120,14 +110,6 @@ fn rows_of(alloc: Global, version: Version, n: usize, text: &[u8]) -> Result<Vec
             cause: Cause::BadCount,
         }))
     }
-}
-
-/// Parses `n` lines as rows that the version may have, or returns the first fault.
-fn read_rows(alloc: Global, version: Version, n: usize, text: &[u8]) -> Result<Vec<Row>, CertError>
-    ensures well_formed { IfOk result (λ v. IsTrue (list_all (is_row_of version) v.items)) }
-    ensures exact { spec.Gives (λ v. v.items) result (spec.rows_of version 2 n text.now) }
-{
-    rows_of(alloc, version, n, text)
 }
 
 /// The version in the first line.
@@ -153,7 +135,7 @@ fn read(alloc: Global, text: &[u8], n: usize) -> Result<Cert, CertError>
             cause: Cause::BadHead,
         }));
     };
-    let rows = read_rows(alloc, version, n, &text[11..])?;
+    let rows = rows_of(alloc, version, n, &text[11..])?;
     Ok(Cert::of_version(version, rows))
 }
 

@@ -1,6 +1,6 @@
 //! Writes rows as text.
 
-ghost use Rattle.std.specs.Prelude.{◌≡◌, ◌++◌, IfOk, OnOk};
+ghost use Rattle.std.specs.Prelude.{◌≡◌, ◌+◌, ◌≤◌, ◌++◌, length, take, IfOk};
 ghost use Rattle.std.specs.List.{flat_map};
 ghost use Rattle.std.specs.Int.{w64, to_be_bytes};
 ghost use Rattle.dp_cert.specs.Spelling as spec;
@@ -9,61 +9,77 @@ use crate::cert::{Cert, Version};
 use dp_model::{Fact, Row};
 use std::alloc::{AllocError, Global};
 
-fn push_fact(out: &mut Vec<u8>, fact: &Fact) -> Result<(), AllocError>
-    ensures { OnOk result (out.new.items ≡ out.old.items ++ spec.fact_bytes fact.now) }
+/// Writes a part at offset `at`, after what stands before it.
+fn write_at(bytes: &mut [u8], at: usize, part: &[u8])
+    requires { at + length part.now ≤ length bytes.old }
+    ensures so_far { take (at + length part.now) bytes.new ≡ take at bytes.old ++ part.now }
+    ensures len { length bytes.new ≡ length bytes.old }
 {
-    match fact.holding() {
-        None => out.extend_from_slice(&[0; 11])?,
-        Some(held) => {
-            out.extend_from_slice(&[1, held.share])?;
-            out.extend_from_slice(&held.head.to_be_bytes())?;
-            out.extend_from_slice(&held.tail.to_be_bytes())?;
-            out.extend_from_slice(&held.first.to_be_bytes())?;
-            out.extend_from_slice(&held.last.to_be_bytes())?;
-            out.push(held.segs)?;
+    bytes[at..at + part.len()].copy_from_slice(part);
+}
+
+fn fact_bytes(fact: Fact) -> [u8; 11]
+    ensures { result ≡ spec.fact_bytes fact }
+{
+    match fact {
+        Fact::Empty => [0; 11],
+        Fact::Held {
+            share,
+            head,
+            tail,
+            first,
+            last,
+            segs,
+        } => {
+            let head = head.to_be_bytes();
+            let tail = tail.to_be_bytes();
+            let first = first.to_be_bytes();
+            let last = last.to_be_bytes();
+            [
+                1, share, head[0], head[1], tail[0], tail[1], first[0], first[1], last[0], last[1],
+                segs,
+            ]
         }
     }
-    Ok(())
 }
 
-fn push_facts(out: &mut Vec<u8>, facts: &[Fact]) -> Result<(), AllocError>
-    ensures { OnOk result (out.new.items ≡ out.old.items ++ flat_map spec.fact_bytes facts.now) }
+fn bytes_of_facts(facts: &[Fact; 8]) -> [u8; 88]
+    ensures { result ≡ flat_map spec.fact_bytes facts.now }
 {
-    for fact in facts {
-        push_fact(out, fact)?;
+    let mut bytes = [0; 88];
+    for i in 0..8 {
+        write_at(&mut bytes, 11 * i, &fact_bytes(facts[i]));
     }
-    Ok(())
+    bytes
 }
 
-fn push_bounds(out: &mut Vec<u8>, bounds: &[u64]) -> Result<(), AllocError>
-    ensures { OnOk result (out.new.items ≡ out.old.items ++ flat_map (to_be_bytes w64) bounds.now) }
+fn bytes_of_bounds(bounds: &[u64; 8]) -> [u8; 64]
+    ensures { result ≡ flat_map (to_be_bytes w64) bounds.now }
 {
-    for bound in bounds {
-        out.extend_from_slice(&bound.to_be_bytes())?;
+    let mut bytes = [0; 64];
+    for i in 0..8 {
+        write_at(&mut bytes, 8 * i, &bounds[i].to_be_bytes());
     }
-    Ok(())
+    bytes
 }
 
-fn row_bytes(alloc: Global, row: &Row) -> Result<Vec<u8>, AllocError>
-    ensures { IfOk result (λ v. v.items ≡ spec.row_bytes row.now) }
+fn row_bytes(row: &Row) -> [u8; 153]
+    ensures { result ≡ spec.row_bytes row.now }
 {
-    let mut bytes = Vec::new(alloc);
-    bytes.push(u8::from(row.live))?;
-    push_facts(&mut bytes, &row.facts)?;
-    push_bounds(&mut bytes, &row.bounds)?;
-    Ok(bytes)
+    let mut bytes = [0; 153];
+    bytes[0] = u8::from(row.live);
+    write_at(&mut bytes, 1, &bytes_of_facts(&row.facts));
+    write_at(&mut bytes, 89, &bytes_of_bounds(&row.bounds));
+    bytes
 }
 
 /// The line of a row: the digits of its bytes, and a newline.
-pub fn row_line(alloc: Global, row: &Row) -> Result<Vec<u8>, AllocError>
-    ensures { IfOk result (λ v. v.items ≡ spec.row_line row.now) }
+pub fn row_line(row: &Row) -> [u8; 307]
+    ensures { result ≡ spec.row_line row.now }
 {
-    let bytes = row_bytes(alloc, row)?;
-    let digits = hex::encode(alloc, bytes.as_slice())?;
-    let mut line = Vec::new(alloc);
-    line.extend_from_slice(digits.as_str().as_bytes())?;
-    line.push(b'\n')?;
-    Ok(line)
+    let mut line = [b'\n'; 307];
+    hex::encode_to_slice(row_bytes(row), &mut line[..306]).unwrap();
+    line
 }
 
 /// The first line of a version.
@@ -82,8 +98,7 @@ fn encode_rows(alloc: Global, head: &[u8], rows: &[Row]) -> Result<Vec<u8>, Allo
 {
     let mut out = Vec::from_slice(alloc, head)?;
     for row in rows {
-        let line = row_line(alloc, row)?;
-        out.extend_from_slice(&line)?;
+        out.extend_from_slice(&row_line(row))?;
     }
     Ok(out)
 }

@@ -1,5 +1,5 @@
 -- A line whose digits decode gives the row that they spell, or none.
-use Rattle.std.proofs.Common.{◌≡◌, true, rules, refl}
+use Rattle.std.proofs.Common.{◌≡◌, true, rules, sym}
 use Rattle.dp_cert.specs.Reading.{is_line}
 use Rattle.dp_cert.proofs.Rows.{row_some, row_none}
 use Rattle.dp_cert.proofs.decoding.row_of.Goals as goal
@@ -12,4 +12,4 @@ returns-in-Some c =
 pub returns-in-None : goal.returns-in-None
 returns-in-None c =
     let good : is_line c.args.line.now ≡ true = search rules in
-    rw (row_none c.args.version c.args.line.now c.bytes_of.result good c.in-None.is (rw c.digits_in.ensures at c.bytes_of.ensures)) refl
+    sym (row_none c.args.version c.args.line.now c.bytes_of.result good c.in-None.is (rw c.digits_in.ensures at c.bytes_of.ensures))
