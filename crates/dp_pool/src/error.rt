@@ -3,22 +3,19 @@ ghost use Rattle.std.specs.Prelude.{◌≡◌};
 ghost use Rattle.dp_pool.specs.Making.{number_of};
 
 use dp_zone::ZoneError;
-use thiserror::Error;
+use std::error::Error;
+use std::fmt::{self, Display, Formatter, Write};
 
 /// Why `make` refuses a pool: the first of these that applies.
-#[derive(Clone, Copy, Debug, PartialEq, Eq, Drop, Error)]
+#[derive(Clone, Copy, Debug, PartialEq, Eq, Drop)]
 pub enum PoolError {
     /// The number of objects is 0 or above `MAX_OBJECTS`.
-    #[error("bad number of objects")]
     BadCount,
     /// The size of an object is 0 or above `MAX_OBJECT`.
-    #[error("bad object size")]
     BadSize,
     /// The cache's size is above `MAX_CACHE`, or above two thirds of the number of objects.
-    #[error("bad cache size")]
     BadCache,
     /// The zone of the objects, or that of the queue, is refused.
-    #[error("{0}")]
     Zone(ZoneError),
 }
 
@@ -35,3 +32,17 @@ impl PoolError {
         }
     }
 }
+
+impl Display for PoolError {
+    fn fmt<W: Write>(&self, f: &mut Formatter<W>) -> fmt::Result {
+        let words = match self {
+            PoolError::BadCount => "bad number of objects",
+            PoolError::BadSize => "bad object size",
+            PoolError::BadCache => "bad cache size",
+            PoolError::Zone(error) => return error.fmt(f),
+        };
+        f.write_str(words)
+    }
+}
+
+impl Error for PoolError {}

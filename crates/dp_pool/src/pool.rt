@@ -255,7 +255,6 @@ impl Pool {
     /// Takes an object for each slot of the list, the same as one `get` for each. Returns false, and takes none, if fewer are in. On success each
     /// is out and occurs once in the list (`out`).
     #[inline(always)]
-    #[tactic(auto, using(crate::proofs::Bulk::got_keeps, crate::proofs::Bulk::got_out))]
     pub fn get_bulk(&mut self, indexes: &mut [u32]) -> bool
         ensures taken { result ≡ nat_le (length indexes.old) (in_count self.old.out) }
         ensures got { result ≡ true → AreGot self.old indexes.new self.new }

@@ -2,28 +2,23 @@
 ghost use Rattle.std.specs.Prelude.{◌≡◌};
 ghost use Rattle.dp_zone.specs.Zones.{number_of};
 
-use thiserror::Error;
+use std::error::Error;
+use std::fmt::{self, Display, Formatter, Write};
 
 /// Why `reserve` refuses a zone: the first of these that applies.
-#[derive(Clone, Copy, Debug, PartialEq, Eq, Drop, Error)]
+#[derive(Clone, Copy, Debug, PartialEq, Eq, Drop)]
 pub enum ZoneError {
     /// The name is empty or longer than `MAX_NAME`, or has a character that is not from 33 to 126.
-    #[error("bad zone name")]
     BadName,
     /// The length is 0 or above `dp_region::MAX_REGION`.
-    #[error("bad zone length")]
     BadLength,
     /// The alignment is neither 0 nor a power of two.
-    #[error("bad zone alignment")]
     BadAlign,
     /// The table has a zone of that name.
-    #[error("the zone exists")]
     Exists,
     /// The table has `MAX_ZONES` zones.
-    #[error("too many zones")]
     Full,
     /// No free element of the heap has room.
-    #[error("no room for the zone")]
     NoRoom,
 }
 
@@ -42,3 +37,18 @@ impl ZoneError {
         }
     }
 }
+
+impl Display for ZoneError {
+    fn fmt<W: Write>(&self, f: &mut Formatter<W>) -> fmt::Result {
+        f.write_str(match self {
+            ZoneError::BadName => "bad zone name",
+            ZoneError::BadLength => "bad zone length",
+            ZoneError::BadAlign => "bad zone alignment",
+            ZoneError::Exists => "the zone exists",
+            ZoneError::Full => "too many zones",
+            ZoneError::NoRoom => "no room for the zone",
+        })
+    }
+}
+
+impl Error for ZoneError {}

@@ -1,7 +1,10 @@
 -- Either both zones are last in the table, or neither is.
-use Rattle.std.proofs.Common.{◌*◌, refl, ap, ap₂, sym, subst, ◌∙◌}
-use Rattle.dp_zone.specs.Zones.{without_name}
-use Rattle.dp_pool.specs.Making.{Reserves, object_name, queue_name, object_len}
+use Rattle.std.proofs.Common.{◌≡◌, ◌⊎◌, ℕ, ◌*◌, List, inl, inr, refl, ap, ap₂, sym, subst, ◌∙◌}
+use Rattle.dp_heap.specs.declared.elements.Element.{Element}
+use Rattle.dp_zone.specs.Zones.{Reserved, IsZoneRefused, without_name}
+use Rattle.dp_pool.specs.declared.error.PoolError.{PoolError}
+use Rattle.dp_pool.specs.declared.error.PoolError.TheVariants.{BadCount, BadSize, BadCache}
+use Rattle.dp_pool.specs.Making.{IsPoolCount, IsObjectSize, IsCacheSize, IsPoolRefused, Reserves, object_name, queue_name, object_len}
 use Rattle.dp_pool.proofs.Names.{without_last, given_back, as_before}
 use Rattle.dp_pool.proofs.pool.Pool.make.Goals as goal
 
@@ -16,6 +19,48 @@ returns-in-Err-reserve-clause-kept c =
       c.give_back.ensures.heap
           ∙ (ap (given_back c.in-Ok.objects.offset) refused.kept.1
           ∙ as_before c.in-Ok.objects.offset c.args.heap.now c.reserve.new.heap objects.home objects.undone),
+    )
+
+refused_numbers_are : (error : PoolError) (name : List ℕ) (count size cache : ℕ) (table : List Reserved) (es : List Element) →
+    (error ≡ BadCount × ¬ IsPoolCount count) ⊎ ((error ≡ BadSize × IsPoolCount count × ¬ IsObjectSize size)
+    ⊎ (error ≡ BadCache × IsPoolCount count × IsObjectSize size × ¬ IsCacheSize count cache)) → IsPoolRefused error name count size cache table es
+refused_numbers_are error name count size cache table es (inl (is, other)) =
+    subst (λ e. IsPoolRefused e name count size cache table es) (sym is) other
+refused_numbers_are error name count size cache table es (inr (inl (is, count_fits, other))) =
+    subst (λ e. IsPoolRefused e name count size cache table es) (sym is) (count_fits, other)
+refused_numbers_are error name count size cache table es (inr (inr (is, count_fits, size_fits, other))) =
+    subst (λ e. IsPoolRefused e name count size cache table es) (sym is) (count_fits, size_fits, other)
+
+pub returns-in-Some-clause-refused : goal.returns-in-Some-clause-refused
+returns-in-Some-clause-refused c =
+    refused_numbers_are c.in-Some.error c.args.name.now c.args.count c.args.size c.args.cache c.args.zones.now c.args.heap.now.elements c.in-Some.ensures.some
+
+pub returns-in-Err-clause-refused : goal.returns-in-Err-clause-refused
+returns-in-Err-clause-refused c =
+    let (count, size, cache) = c.in_default.ensures.none in (
+      count,
+      size,
+      cache,
+      inl (subst (λ n. IsZoneRefused c.in-Err.error (object_name c.args.name.now) (c.args.count * n) 0 c.args.zones.now c.args.heap.now.elements)
+          c.stride_of.ensures c.in-Err.ensures.refused),
+    )
+
+pub returns-in-Err-reserve-clause-refused : goal.returns-in-Err-reserve-clause-refused
+returns-in-Err-reserve-clause-refused c =
+    let (count, size, cache) = c.in_default.ensures.none in (
+      count,
+      size,
+      cache,
+      inr (
+        4 * c.queue_count-slots.result,
+        c.in-Ok.objects.offset,
+        c.reserve.new.zones,
+        c.reserve.new.heap.elements,
+        (c.queue_count-slots.result, c.queue_count-slots.ensures.next, refl),
+        subst (λ n. Reserves (object_name c.args.name.now) (c.args.count * n) c.args.zones.now c.args.heap.now.elements c.in-Ok.objects.offset
+            c.reserve.new.zones c.reserve.new.heap.elements) c.stride_of.ensures c.in-Ok.ensures.reserves,
+        c.in-Err-reserve.ensures.refused,
+      ),
     )
 
 pub returns-clause-made : goal.returns-clause-made

@@ -1,5 +1,5 @@
 -- What comes back into the object comes back into the zone.
-use Rattle.std.proofs.Common.{refl, ap, ◌∙◌}
+use Rattle.std.proofs.Common.{refl, ap, ◌∙◌, arith}
 use Rattle.dp_region.specs.Spans.{bytes_in}
 use Rattle.dp_pool.proofs.Pools.{index_below, object_bytes, pool_left, left_alone}
 use Rattle.dp_pool.proofs.pool.Pool.object_mut.Goals as goal
@@ -7,6 +7,11 @@ use Rattle.dp_pool.proofs.pool.Pool.object_mut.Goals as goal
 pub offset_of-offset-requires-clause-there : goal.offset_of-offset-requires-clause-there
 offset_of-offset-requires-clause-there c = index_below c.self.inside.objects c.self.inside.indexes c.self.inside.count c.self.inside.size c.args.index
     c.args.self.now c.self.view_is c.requires
+
+pub part_mut-requires : goal.part_mut-requires
+part_mut-requires c =
+    let (all, some, few, size_some, size_few, stride, room, home, cache, two_thirds) = c.self.invariant in
+    omega (arith, c.offset_of-offset.ensures.end, room)
 
 pub returns : goal.returns
 returns c =

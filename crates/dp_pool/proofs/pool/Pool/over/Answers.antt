@@ -1,5 +1,6 @@
 -- The numbers are those that are given.
-use Rattle.std.proofs.Common.{refl, ap}
+use Rattle.std.proofs.Common.{false, length, refl, ap, ◌∙◌, arith}
+use Rattle.std.proofs.lemmas.List.{length-replicate}
 use Rattle.dp_pool.proofs.Objects.{length-objects}
 use Rattle.dp_pool.proofs.pool.Pool.over.Goals as goal
 
@@ -11,3 +12,20 @@ returns-clause-numbers c = (
   length-objects c.args.objects.bytes c.args.numbers.size 0 c.args.numbers.count,
   ap (λ v. v.out) c.over.ensures,
 )
+
+pub invariant_of-result : goal.invariant_of-result
+invariant_of-result c =
+    let (count, size, cache) = c.requires.numbers in
+    let new = c.over.ensures in
+    let same = ap (λ v. v.cache) new in (
+      ap (λ v. length v.out) new ∙ length-replicate c.args.numbers.count false,
+      count.0,
+      count.1,
+      size.0,
+      size.1,
+      c.stride_of.ensures,
+      c.requires.room,
+      ap (λ v. v.home) new ∙ (ap (λ r. r.home) c.over-ring.ensures ∙ c.requires.home),
+      omega (arith, same, cache.0),
+      omega (arith, same, cache.1),
+    )
