@@ -1,6 +1,6 @@
 //! The numbers and texts of causes.
 
-ghost use Rattle.std.specs.Prelude.{◌≡◌, ◌++◌};
+ghost use Rattle.std.specs.Prelude.{◌≡◌, ◌++◌, codes};
 ghost use Rattle.std.specs.Fmt.{decimal};
 ghost use Rattle.dp_load.specs.Causes.{number_of, number_of_route, part_text, piece_text, node_text, text_of};
 
@@ -120,23 +120,66 @@ impl fmt::Display for NodeName {
     }
 }
 
-/// The text of an error in pieces. A table of texts, each with its own `write!`, takes longer to prove.
-fn pieces_of(error: PipeError) -> (Piece, Piece, Piece, Piece)
-    ensures { piece_text result.0 ++ (piece_text result.1 ++ (piece_text result.2 ++ piece_text result.3)) ≡ text_of error }
+/// A text of one word.
+fn word_alone(word: &'static str) -> (&'static str, Piece, Piece, Piece)
+    ensures { result.0.now ++ (piece_text result.1 ++ (piece_text result.2 ++ piece_text result.3)) ≡ word.now }
+{
+    (word, NOTHING, NOTHING, NOTHING)
+}
+
+/// The text of a fault in a node's file.
+fn fault_in(
+    name: &'static str,
+    node: Entry,
+    line: usize,
+    cause: u8,
+) -> (&'static str, Piece, Piece, Piece)
+    ensures { result.0.now ++ (piece_text result.1 ++ (piece_text result.2 ++ piece_text result.3))
+        ≡ name.now ++ (node_text node ++ (codes " line " ++ (decimal line ++ (codes " cause " ++ decimal cause)))) }
+{
+    (
+        name,
+        node_piece(node),
+        Piece(" line ", Some(line)),
+        numbered(" cause ", cause),
+    )
+}
+
+/// The text of the verdict on a node.
+fn verdict_on(
+    node: Entry,
+    verdict: &'static str,
+    label: u16,
+    rule: u8,
+) -> (&'static str, Piece, Piece, Piece)
+    ensures { result.0.now ++ (piece_text result.1 ++ (piece_text result.2 ++ piece_text result.3))
+        ≡ node_text node ++ (verdict.now ++ (decimal label ++ (codes " by J" ++ decimal rule))) }
+{
+    (
+        "",
+        node_piece(node),
+        Piece(verdict, Some(usize::from(label))),
+        numbered(" by J", rule),
+    )
+}
+
+/// The text of an error: a word and three pieces. A table of texts, each with its own `write!`, takes longer to prove.
+fn pieces_of(error: PipeError) -> (&'static str, Piece, Piece, Piece)
+    ensures { result.0.now ++ (piece_text result.1 ++ (piece_text result.2 ++ piece_text result.3)) ≡ text_of error }
 {
     match error {
-        PipeError::Memory => (Piece("memory", None), NOTHING, NOTHING, NOTHING),
-        PipeError::NotToml => (Piece("1 NotToml", None), NOTHING, NOTHING, NOTHING),
+        PipeError::Memory => word_alone("memory"),
+        PipeError::NotToml => word_alone("1 NotToml"),
         PipeError::BadKey { part, index } => (
-            Piece("2 BadKey ", None),
+            "2 BadKey ",
             Piece(part.word(), None),
             Piece(" ", Some(index)),
             NOTHING,
         ),
         PipeError::BadEnv(error) => (
-            numbered("3 BadEnv ", error.number()),
+            "3 BadEnv ",
+            numbered("", error.number()),
             numbered(" ", error.index()),
-            NOTHING,
             NOTHING,
         ),
         PipeError::BadTable {
@@ -144,36 +187,22 @@ fn pieces_of(error: PipeError) -> (Piece, Piece, Piece, Piece)
             route,
             cause,
         } => (
-            Piece("4 BadTable ", Some(table)),
+            "4 BadTable ",
+            Piece("", Some(table)),
             Piece(" ", Some(route)),
             numbered(" ", cause.number()),
-            NOTHING,
         ),
-        PipeError::File(node) => (Piece("5 File ", None), node_piece(node), NOTHING, NOTHING),
-        PipeError::Asm(node, fault) => (
-            Piece("6 Asm ", None),
-            node_piece(node),
-            Piece(" line ", Some(fault.line)),
-            numbered(" cause ", fault.cause.number()),
-        ),
-        PipeError::BadCert(node, fault) => (
-            Piece("7 BadCert ", None),
-            node_piece(node),
-            Piece(" line ", Some(fault.line)),
-            numbered(" cause ", fault.cause.number()),
-        ),
-        PipeError::NotInferred { node, label, rule } => (
-            node_piece(node),
-            Piece(" not inferred at ", Some(usize::from(label))),
-            numbered(" by J", rule),
-            NOTHING,
-        ),
-        PipeError::Refused { node, label, rule } => (
-            node_piece(node),
-            Piece(" refused at ", Some(usize::from(label))),
-            numbered(" by J", rule),
-            NOTHING,
-        ),
+        PipeError::File(node) => ("5 File ", node_piece(node), NOTHING, NOTHING),
+        PipeError::Asm(node, fault) => {
+            fault_in("6 Asm ", node, fault.line, fault.cause.number())
+        }
+        PipeError::BadCert(node, fault) => {
+            fault_in("7 BadCert ", node, fault.line, fault.cause.number())
+        }
+        PipeError::NotInferred { node, label, rule } => {
+            verdict_on(node, " not inferred at ", label, rule)
+        }
+        PipeError::Refused { node, label, rule } => verdict_on(node, " refused at ", label, rule),
     }
 }
 
@@ -185,8 +214,8 @@ impl fmt::Display for PipeError {
     ghost output = { λ error. Some (text_of error) };
 
     fn fmt<W: fmt::Write>(&self, f: &mut fmt::Formatter<W>) -> fmt::Result {
-        let (first, second, third, last) = pieces_of(*self);
-        write!(f, "{first}{second}{third}{last}")
+        let (word, first, second, last) = pieces_of(*self);
+        write!(f, "{word}{first}{second}{last}")
     }
 }
 

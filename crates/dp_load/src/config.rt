@@ -1,6 +1,6 @@
 //! Reads the text of a pipeline file as a configuration.
 
-ghost use Rattle.std.specs.Prelude.{◌≡◌, map, option_map, string_bytes, IfOk, IfErr};
+ghost use Rattle.std.specs.Prelude.{◌≡◌, map, IfOk, IfErr};
 ghost use Rattle.std.specs.List.{All};
 ghost use Rattle.toml.specs.View.{table_view};
 ghost use Rattle.dp_load.specs.Config as spec;
@@ -50,13 +50,21 @@ fn table_of(alloc: Global, text: &[u8]) -> Result<Table, PipeError>
 fn specs_of_rings(alloc: Global, rings: &[RingPart<'_>]) -> Result<Vec<RingSpec>, AllocError>
     ensures { IfOk result (λ v. v.items ≡ map (λ r. r.spec) rings.now) }
 {
-    rings.iter().map(|ring| ring.spec).collect(alloc)
+    let mut specs = Vec::new(alloc);
+    for ring in rings {
+        specs.push(ring.spec)?;
+    }
+    Ok(specs)
 }
 
 fn specs_of_ports(alloc: Global, ports: &[PortPart<'_>]) -> Result<Vec<PortSpec>, AllocError>
     ensures { IfOk result (λ v. v.items ≡ map (λ p. p.spec) ports.now) }
 {
-    ports.iter().map(|port| port.spec).collect(alloc)
+    let mut specs = Vec::new(alloc);
+    for port in ports {
+        specs.push(port.spec)?;
+    }
+    Ok(specs)
 }
 
 /// Makes the environment of a file. More than 255 tables count as 255.
@@ -73,22 +81,15 @@ fn env_of(alloc: Global, setup: &Setup<'_>) -> Result<Env, PipeError>
     }
 }
 
-/// A copy of a text, if there is one.
-pub(crate) fn kept_text(alloc: Global, text: Option<&str>) -> Result<Option<String>, AllocError>
-    ensures { IfOk result (λ kept. option_map string_bytes kept ≡ option_map (λ t. t.now) text.entry) }
-{
-    match text {
-        Some(text) => Ok(Some(String::from_str(alloc, text)?)),
-        None => Ok(None),
-    }
-}
-
 fn kept_files(alloc: Global, files: NodeFiles<'_>) -> Result<NodeNames, AllocError>
     ensures { IfOk result (λ names. view.node_names names ≡ view.node_files files.entry) }
 {
     Ok(NodeNames {
         node: String::from_str(alloc, files.node)?,
-        cert: kept_text(alloc, files.cert)?,
+        cert: match files.cert {
+            Some(cert) => Some(String::from_str(alloc, cert)?),
+            None => None,
+        },
     })
 }
 
@@ -103,13 +104,19 @@ fn names_of_rings(alloc: Global, rings: &[RingPart<'_>]) -> Result<Vec<NodeNames
     Ok(names)
 }
 
-fn port_names(alloc: Global, port: &PortPart<'_>) -> Result<PortNames, AllocError>
-    ensures { IfOk result (λ names. view.port_names names ≡ spec.names_of_port (view.port_part port.now)) }
+/// The file names of a port, each copied.
+pub(crate) fn kept_names(
+    alloc: Global,
+    files: NodeFiles<'_>,
+    input: &str,
+    output: &str,
+) -> Result<PortNames, AllocError>
+    ensures { IfOk result (λ names. view.port_names names ≡ (view.node_files files.entry, input.now, output.now)) }
 {
     Ok(PortNames {
-        files: kept_files(alloc, port.files)?,
-        input: String::from_str(alloc, port.input)?,
-        output: String::from_str(alloc, port.output)?,
+        files: kept_files(alloc, files)?,
+        input: String::from_str(alloc, input)?,
+        output: String::from_str(alloc, output)?,
     })
 }
 
@@ -119,7 +126,7 @@ fn names_of_ports(alloc: Global, ports: &[PortPart<'_>]) -> Result<Vec<PortNames
 {
     let mut names = Vec::new(alloc);
     for port in ports {
-        names.push(port_names(alloc, port)?)?;
+        names.push(kept_names(alloc, port.files, port.input, port.output)?)?;
     }
     Ok(names)
 }

@@ -19,7 +19,7 @@ pub enum FetchFault {
 }
 
 /// A part of a pipeline file: its top, or one of the tables of an array.
-#[derive(Clone, Copy, PartialEq, Eq)]
+#[derive(Clone, Copy)]
 pub enum Part {
     /// The top level, outside all tables of arrays.
     Top,
@@ -34,7 +34,7 @@ pub enum Part {
 }
 
 /// Why a route is refused.
-#[derive(Clone, Copy, PartialEq, Eq)]
+#[derive(Clone, Copy)]
 pub enum RouteError {
     /// The table refuses it.
     Refused(LpmError),
@@ -43,7 +43,7 @@ pub enum RouteError {
 }
 
 /// Why a pipeline is not loaded, in the order in which the causes are tested. Indexes count from 0.
-#[derive(Clone, Copy, PartialEq, Eq)]
+#[derive(Clone, Copy)]
 pub enum PipeError {
     /// The allocator refused memory.
     Memory,

@@ -39,7 +39,10 @@ pub fn has_only(table: &Table, keys: &[&str]) -> bool
 fn integer_at(table: &Table, key: &str) -> Option<i64>
     ensures { result ≡ option_and_then as_integer (get_member key.now (table_view table.now)) }
 {
-    value_at(table, key)?.as_integer()
+    match value_at(table, key) {
+        Some(value) => value.as_integer(),
+        None => None,
+    }
 }
 
 /// Reads the integer at a key, from 0 to `most`.
@@ -47,11 +50,9 @@ pub fn number_at(table: &Table, key: &str, most: u32) -> Option<u32>
     ensures number { result ≡ spec.number_at key.now most (table_view table.now) }
     ensures most { IfSome result (λ n. n ≤ most) }
 {
-    let n = integer_at(table, key)?;
-    if 0 <= n && n <= i64::from(most) {
-        Some(n as u32)
-    } else {
-        None
+    match integer_at(table, key) {
+        Some(n) if 0 <= n && n <= i64::from(most) => Some(n as u32),
+        _ => None,
     }
 }
 
@@ -59,7 +60,10 @@ pub fn number_at(table: &Table, key: &str, most: u32) -> Option<u32>
 pub fn text_at<'a>(table: &'a Table, key: &str) -> Option<&'a str>
     ensures { option_map (λ s. s.now) result ≡ spec.text_at key.now (table_view table.now) }
 {
-    value_at(table, key)?.as_str()
+    match value_at(table, key) {
+        Some(value) => value.as_str(),
+        None => None,
+    }
 }
 
 /// Reads the string at an optional key; nothing if the value is not a string.

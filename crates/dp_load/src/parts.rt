@@ -23,11 +23,14 @@ fn pool_in(table: &Table) -> Option<PoolSpec>
     if !has_only(table, &["count", "cache", "room"]) {
         return None;
     }
-    Some(PoolSpec {
-        count: number_at(table, "count", u32::MAX)?,
-        cache: number_at(table, "cache", u32::MAX)?,
-        room: number_at(table, "room", u32::MAX)?,
-    })
+    match (
+        number_at(table, "count", u32::MAX),
+        number_at(table, "cache", u32::MAX),
+        number_at(table, "room", u32::MAX),
+    ) {
+        (Some(count), Some(cache), Some(room)) => Some(PoolSpec { count, cache, room }),
+        _ => None,
+    }
 }
 
 /// The maximum number of rules of a table of routes, at least 1.
@@ -35,19 +38,19 @@ fn rules_in(table: &Table) -> Option<u32>
     ensures number { result ≡ spec.rules_in (table_view table.now) }
     ensures most { IfSome result (λ n. n ≤ MAX_RULES) }
 {
-    let rules = number_at(table, "rules", MAX_RULES)?;
-    if rules >= 1 { Some(rules) } else { None }
+    match number_at(table, "rules", MAX_RULES) {
+        Some(rules) if rules >= 1 => Some(rules),
+        _ => None,
+    }
 }
 
 /// The elements of the array of texts at a key.
 fn texts_at<'a>(table: &'a Table, key: &str) -> Option<&'a [Value]>
     ensures { option_map (λ texts. view.values texts.now) result ≡ spec.texts_at key.now (table_view table.now) }
 {
-    let value = value_at(table, key)?;
-    if is_texts(value) {
-        Some(elements_of(value))
-    } else {
-        None
+    match value_at(table, key) {
+        Some(value) if is_texts(value) => Some(elements_of(value)),
+        _ => None,
     }
 }
 
@@ -58,44 +61,63 @@ fn table_in(table: &Table) -> Option<TablePart<'_>>
     if !has_only(table, &["rules", "groups", "routes"]) {
         return None;
     }
-    Some(TablePart {
-        rules: rules_in(table)?,
-        groups: number_at(table, "groups", MAX_GROUPS)?,
-        routes: texts_at(table, "routes")?,
-    })
+    match (
+        rules_in(table),
+        number_at(table, "groups", MAX_GROUPS),
+        texts_at(table, "routes"),
+    ) {
+        (Some(rules), Some(groups), Some(routes)) => Some(TablePart {
+            rules,
+            groups,
+            routes,
+        }),
+        _ => None,
+    }
 }
 
 /// Reads the file names of a node.
 fn node_files_in(table: &Table) -> Option<NodeFiles<'_>>
     ensures { option_map view.node_files result ≡ spec.node_files_in (table_view table.now) }
 {
-    Some(NodeFiles {
-        node: text_at(table, "node")?,
-        cert: text_if_any(table, "cert")?,
-    })
+    match (text_at(table, "node"), text_if_any(table, "cert")) {
+        (Some(node), Some(cert)) => Some(NodeFiles { node, cert }),
+        _ => None,
+    }
 }
 
 /// Reads the fact that each packet of a ring satisfies.
 fn fact_in(table: &Table) -> Option<Fact>
     ensures { result ≡ spec.fact_in (table_view table.now) }
 {
-    Some(Fact::Held {
-        share: number_at(table, "share", MAX_SMALL)? as u8,
-        head: number_at(table, "head", MAX_COUNT)? as u16,
-        tail: number_at(table, "tail", MAX_COUNT)? as u16,
-        first: number_at(table, "first", MAX_COUNT)? as u16,
-        last: number_at(table, "last", MAX_COUNT)? as u16,
-        segs: number_at(table, "segs", MAX_SMALL)? as u8,
-    })
+    match (
+        number_at(table, "share", MAX_SMALL),
+        number_at(table, "head", MAX_COUNT),
+        number_at(table, "tail", MAX_COUNT),
+        number_at(table, "first", MAX_COUNT),
+        number_at(table, "last", MAX_COUNT),
+        number_at(table, "segs", MAX_SMALL),
+    ) {
+        (Some(share), Some(head), Some(tail), Some(first), Some(last), Some(segs)) => {
+            Some(Fact::Held {
+                share: share as u8,
+                head: head as u16,
+                tail: tail as u16,
+                first: first as u16,
+                last: last as u16,
+                segs: segs as u8,
+            })
+        }
+        _ => None,
+    }
 }
 
 fn ring_spec_in(table: &Table) -> Option<RingSpec>
     ensures { result ≡ spec.ring_spec_in (table_view table.now) }
 {
-    Some(RingSpec {
-        count: number_at(table, "count", u32::MAX)?,
-        fact: fact_in(table)?,
-    })
+    match (number_at(table, "count", u32::MAX), fact_in(table)) {
+        (Some(count), Some(fact)) => Some(RingSpec { count, fact }),
+        _ => None,
+    }
 }
 
 /// Reads a `[[ring]]`; none if a key or a value is wrong.
@@ -108,20 +130,23 @@ fn ring_in(table: &Table) -> Option<RingPart<'_>>
     if !has_only(table, &keys) {
         return None;
     }
-    Some(RingPart {
-        spec: ring_spec_in(table)?,
-        files: node_files_in(table)?,
-    })
+    match (ring_spec_in(table), node_files_in(table)) {
+        (Some(spec), Some(files)) => Some(RingPart { spec, files }),
+        _ => None,
+    }
 }
 
 fn port_spec_in(table: &Table) -> Option<PortSpec>
     ensures { result ≡ spec.port_spec_in (table_view table.now) }
 {
-    Some(PortSpec {
-        pool: number_at(table, "pool", u32::MAX)?,
-        segs: number_at(table, "segs", MAX_SMALL)?,
-        queue: number_at(table, "queue", u32::MAX)?,
-    })
+    match (
+        number_at(table, "pool", u32::MAX),
+        number_at(table, "segs", MAX_SMALL),
+        number_at(table, "queue", u32::MAX),
+    ) {
+        (Some(pool), Some(segs), Some(queue)) => Some(PortSpec { pool, segs, queue }),
+        _ => None,
+    }
 }
 
 /// Reads a `[[port]]`; none if a key or a value is wrong.
@@ -132,12 +157,20 @@ fn port_in(table: &Table) -> Option<PortPart<'_>>
     if !has_only(table, &keys) {
         return None;
     }
-    Some(PortPart {
-        spec: port_spec_in(table)?,
-        files: node_files_in(table)?,
-        input: text_at(table, "in")?,
-        output: text_at(table, "out")?,
-    })
+    match (
+        port_spec_in(table),
+        node_files_in(table),
+        text_at(table, "in"),
+        text_at(table, "out"),
+    ) {
+        (Some(spec), Some(files), Some(input), Some(output)) => Some(PortPart {
+            spec,
+            files,
+            input,
+            output,
+        }),
+        _ => None,
+    }
 }
 
 /// Whether a key has an array of tables, or is missing.
@@ -168,11 +201,9 @@ pub fn region_in(top: &Table) -> Option<u32>
     if !is_top(top) {
         return None;
     }
-    let region = number_at(top, "region", MAX_REGION)?;
-    if region >= MIN_REGION && region % CACHE_LINE == 0 {
-        Some(region)
-    } else {
-        None
+    match number_at(top, "region", MAX_REGION) {
+        Some(region) if region >= MIN_REGION && region % CACHE_LINE == 0 => Some(region),
+        _ => None,
     }
 }
 
@@ -198,7 +229,10 @@ impl<'a> ArrayPart<'a> for PoolSpec {
     ghost read = { spec.pool_in };
 
     fn in_element(element: &'a Value) -> Option<PoolSpec> {
-        pool_in(element.as_table()?)
+        match element.as_table() {
+            Some(table) => pool_in(table),
+            None => None,
+        }
     }
 }
 
@@ -210,7 +244,10 @@ impl<'a> ArrayPart<'a> for TablePart<'a> {
     ghost read = { spec.table_in };
 
     fn in_element(element: &'a Value) -> Option<TablePart<'a>> {
-        table_in(element.as_table()?)
+        match element.as_table() {
+            Some(table) => table_in(table),
+            None => None,
+        }
     }
 }
 
@@ -222,7 +259,10 @@ impl<'a> ArrayPart<'a> for RingPart<'a> {
     ghost read = { spec.ring_in };
 
     fn in_element(element: &'a Value) -> Option<RingPart<'a>> {
-        ring_in(element.as_table()?)
+        match element.as_table() {
+            Some(table) => ring_in(table),
+            None => None,
+        }
     }
 }
 
@@ -234,6 +274,9 @@ impl<'a> ArrayPart<'a> for PortPart<'a> {
     ghost read = { spec.port_in };
 
     fn in_element(element: &'a Value) -> Option<PortPart<'a>> {
-        port_in(element.as_table()?)
+        match element.as_table() {
+            Some(table) => port_in(table),
+            None => None,
+        }
     }
 }

@@ -58,8 +58,10 @@ fn byte_in(digits: &[u8]) -> Option<u32>
     ensures value { result ≡ spec.byte_in digits.now }
     ensures most { IfSome result (λ n. n ≤ 255) }
 {
-    let n = number_in(3, digits)?;
-    if n <= 255 { Some(n) } else { None }
+    match number_in(3, digits) {
+        Some(n) if n <= 255 => Some(n),
+        _ => None,
+    }
 }
 
 fn offset_of(byte: u8, text: &[u8]) -> Option<usize>
@@ -86,11 +88,10 @@ fn address_in(text: &[u8]) -> Option<u32>
     let (a, rest) = cut(b'.', text);
     let (b, rest) = cut(b'.', rest);
     let (c, d) = cut(b'.', rest);
-    let a = byte_in(a)?;
-    let b = byte_in(b)?;
-    let c = byte_in(c)?;
-    let d = byte_in(d)?;
-    Some(((a * 256 + b) * 256 + c) * 256 + d)
+    match (byte_in(a), byte_in(b), byte_in(c), byte_in(d)) {
+        (Some(a), Some(b), Some(c), Some(d)) => Some(((a * 256 + b) * 256 + c) * 256 + d),
+        _ => None,
+    }
 }
 
 /// Parses a route, `A.B.C.D/DEPTH HOP`.
@@ -100,11 +101,10 @@ pub fn route_in(text: &[u8]) -> Option<Route>
 {
     let (prefix, hop) = cut(b' ', text);
     let (address, depth) = cut(b'/', prefix);
-    Some(Route {
-        ip: address_in(address)?,
-        depth: number_in(2, depth)?,
-        hop: number_in(8, hop)?,
-    })
+    match (address_in(address), number_in(2, depth), number_in(8, hop)) {
+        (Some(ip), Some(depth), Some(hop)) => Some(Route { ip, depth, hop }),
+        _ => None,
+    }
 }
 
 /// Reads the route in a value of a file.
@@ -112,7 +112,10 @@ fn route_of(value: &Value) -> Option<Route>
     ensures value { result ≡ spec.route_of (view value.now) }
     ensures depth { IfSome result (λ route. route.depth ≤ 255) }
 {
-    route_in(value.as_str()?.as_bytes())
+    match value.as_str() {
+        Some(text) => route_in(text.as_bytes()),
+        None => None,
+    }
 }
 
 /// Adds a value to a table as a route.

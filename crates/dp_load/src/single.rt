@@ -1,20 +1,18 @@
 //! Loads a pipeline of one port, without tables and rings, from an environment in place of a text.
 
-ghost use Rattle.std.specs.Prelude.{◌≡◌, IfErr, IfOk, option_map, string_bytes};
+ghost use Rattle.std.specs.Prelude.{◌≡◌, [], ◌∷◌, IfErr, IfOk};
 ghost use Rattle.dp_region.specs.Region.{IsRegionSize};
 ghost use Rattle.dp_load.specs.Nodes.{Fails};
-ghost use Rattle.dp_load.specs.Pipelines.{input_of, output_of};
 ghost use Rattle.dp_load.specs.Singles.{HasOnePort, IsSinglePlan, single_node};
-ghost use Rattle.dp_load.specs.Views.{node_names};
 
-use crate::config::kept_text;
+use crate::config::kept_names;
 use crate::error::PipeError;
-use crate::file_names::{NodeNames, PortNames};
 use crate::files::Files;
 use crate::nodes::{How, load_node};
 use crate::pipeline::Pipeline;
+use crate::setup::NodeFiles;
 use dp_model::{Entry, Env};
-use std::alloc::{AllocError, Global};
+use std::alloc::Global;
 
 /// The files of a pipeline of one port.
 #[derive(Clone, Copy)]
@@ -29,21 +27,14 @@ pub struct SingleFiles<'a> {
     pub output: &'a str,
 }
 
-/// The names of the port.
-fn names_of(alloc: Global, files: SingleFiles<'_>) -> Result<PortNames, AllocError>
-    ensures node { IfOk result (λ names. string_bytes names.files.node ≡ files.entry.program.now) }
-    ensures cert { IfOk result (λ names. option_map string_bytes names.files.cert ≡ option_map (λ name. name.now) files.entry.cert) }
-    ensures input { IfOk result (λ names. input_of names ≡ files.entry.input.now) }
-    ensures output { IfOk result (λ names. output_of names ≡ files.entry.output.now) }
+/// A list of one item.
+fn list_of<T: Drop>(alloc: Global, item: T) -> Result<Vec<T>, PipeError>
+    ensures ok { IfOk result (λ list. list.items ≡ item ∷ []) }
+    ensures err { IfErr result (λ e. e ≡ PipeError.Memory) }
 {
-    Ok(PortNames {
-        files: NodeNames {
-            node: String::from_str(alloc, files.program)?,
-            cert: kept_text(alloc, files.cert)?,
-        },
-        input: String::from_str(alloc, files.input)?,
-        output: String::from_str(alloc, files.output)?,
-    })
+    let mut list = Vec::new(alloc);
+    list.push(item)?;
+    Ok(list)
 }
 
 /// Loads a pipeline of one port: its program, with the certificate if one is named.
@@ -64,11 +55,13 @@ pub fn load_single<F: Files>(
     ensures fails { IfErr result (Fails (F.contents files.old) env (single_node names.entry)) }
     ensures stays { F.contents files.new ≡ F.contents files.old }
 {
-    let port = names_of(alloc, names)?;
+    let kept = NodeFiles {
+        node: names.program,
+        cert: names.cert,
+    };
+    let port = kept_names(alloc, kept, names.input, names.output)?;
     let node = load_node(alloc, files, How::Given, &env, Entry::Port(0), &port.files)?;
-    let mut nodes = Vec::new(alloc);
-    nodes.push(node)?;
-    let mut ports = Vec::new(alloc);
-    ports.push(port)?;
+    let nodes = list_of(alloc, node)?;
+    let ports = list_of(alloc, port)?;
     Ok(Pipeline::new(region, env, Vec::new(alloc), nodes, ports))
 }

@@ -42,7 +42,10 @@ impl Survey {
     pub fn program(&self, node: Entry) -> Option<&str>
         ensures { option_map (λ name. name.now) result ≡ option_map (λ files. files.node) (files_at self.now.config node) }
     {
-        Some(self.names(node)?.node.as_str())
+        match self.names(node) {
+            Some(names) => Some(names.node.as_str()),
+            None => None,
+        }
     }
 
     /// The name of a node's certificate file, if one is named.
