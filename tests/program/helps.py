@@ -357,8 +357,8 @@ def is_counted(program: str, folder: pathlib.Path) -> bool:
 
 def facts(nodes: list[tuple[str, str, str]], ports: int = 1) -> str:
     """What the program prints of a run that is counted by lines: of each node its name, its file, and its program, where an instruction has before it
-    how often it ran, jumped and was cut. Two records of each port found too few buffers."""
-    port = {"cut_at": None, "full": 0, "input": "whole", "nobuf": 2, "oversize": 0, "pool": 0, "queue": 4, "received": 3, "segs": 1, "sent": 0, "truncated": 0}
+    how often it ran, jumped and was cut. Of each port's three records two found too few buffers (its fourth number)."""
+    port = [0, 0, 0, 2, 0, 0, 4, 3, 1, 0, 0]
     all_of = []
     for node, file, text in nodes:
         lines = []

@@ -40,11 +40,8 @@ class Unfit(NamedTuple):
     cured_keys: dict[str, int]
 
 
-PARTS = ("share", "head", "tail", "first", "last", "segs")
-
-
 class Reason(NamedTuple):
-    """A reason as the program prints it: whether the certificate was given, the rule, and the members; and what is known, wanted and helps."""
+    """A reason: whether the certificate was given, the rule, and the document that the program prints; and what is known, wanted and helps."""
 
     given: bool
     rule: int
@@ -54,32 +51,37 @@ class Reason(NamedTuple):
     help: str
 
 
-def fact(*numbers: int) -> dict[str, int]:
-    """What is known of a packet register, as the program prints it."""
-    return dict(zip(PARTS, numbers, strict=True))
+def fact(*numbers: int) -> list[int]:
+    """What is known of a packet register, as the program prints it: its share, headroom, tailroom, first, last and segments."""
+    return [*numbers]
+
+
+def reason(case: str, *numbers: int | str, known: object = None, wanted: object = None, to: int | None = None) -> dict[str, object]:
+    """A reason as the program prints it: its numbers, of which there are always five, the facts, and the successor, if there is one."""
+    given = [*numbers, 0, 0, 0, 0, 0][:5]
+    return {"case": case, "known": known, "numbers": given, "wanted": wanted} | ({} if to is None else {"to": to})
 
 
 LOOP = "test or bound it again before control goes there, or leave the loop with what it began with"
 INFER, ROW = "let dpv infer write the certificate", "let dpv infer write the certificate, or test for more before it"
 FREE = "free p7 before control goes there, or let this path end with exit: another path arrives with p7 empty"
 REASONS = (
-    Reason(True, 1, {"case": "row_count", "known": 3, "wanted": 6}, "3 rows", "6 rows", INFER),
-    Reason(True, 2, {"case": "no_entry"}, "no such port or ring", "a port or ring of the environment", "name a port or ring that is there"),
-    Reason(True, 2, {"case": "row_dead"}, "control comes there", "that control never comes there", INFER),
-    Reason(False, 2, {"case": "row_number", "known": str(2 ** 64 - 1), "register": 3, "wanted": 0}, f"r3 <= {2 ** 64 - 1}", "r3 <= 0", INFER),
-    Reason(False, 11, {"case": "row_number", "known": 9, "register": 3, "to": 1, "wanted": 8}, "r3 <= 9", "at 1, b: r3 <= 8", LOOP),
-    Reason(False, 11, {"case": "row_dead", "to": 2}, "control comes there", "at 2: that control never comes there", LOOP),
-    Reason(False, 11, {"case": "row_group", "group": 0, "known": fact(8, 1, 2, 3, 4, 64), "packet": 1, "to": 9, "wanted": None},
+    Reason(True, 1, reason("row_count", 3, 6), "3 rows", "6 rows", INFER),
+    Reason(True, 2, reason("no_entry"), "no such port or ring", "a port or ring of the environment", "name a port or ring that is there"),
+    Reason(True, 2, reason("row_dead"), "control comes there", "that control never comes there", INFER),
+    Reason(False, 2, reason("row_number", 3, str(2 ** 64 - 1), 0), f"r3 <= {2 ** 64 - 1}", "r3 <= 0", INFER),
+    Reason(False, 11, reason("row_number", 3, 9, 8, to=1), "r3 <= 9", "at 1, b: r3 <= 8", LOOP),
+    Reason(False, 11, reason("row_dead", to=2), "control comes there", "at 2: that control never comes there", LOOP),
+    Reason(False, 11, reason("row_group", 1, 0, known=fact(8, 1, 2, 3, 4, 64), to=9),
            "p1 in group p0, headroom 1, tailroom 2, first 3, last 4, at most 64 segments", "at 9: p1 empty", LOOP),
-    Reason(True, 11, {"case": "row_group", "group": 7, "known": None, "packet": 7, "to": 0, "wanted": fact(15, 0, 0, 0, 0, 1)},
+    Reason(True, 11, reason("row_group", 7, 7, wanted=fact(15, 0, 0, 0, 0, 1), to=0),
            "p7 empty", "at 0: p7 in group p7, at most 1 segment", ROW),
-    Reason(False, 11, {"case": "row_packet", "known": fact(0, 0, 0, 0, 0, 2), "packet": 7, "to": 0, "wanted": None},
-           "p7 loose, at most 2 segments", "at 0: p7 empty", FREE),
-    Reason(True, 11, {"case": "row_packet", "known": fact(1, 0, 0, 0, 10, 2), "packet": 7, "to": 0, "wanted": None},
+    Reason(False, 11, reason("row_packet", 7, known=fact(0, 0, 0, 0, 0, 2), to=0), "p7 loose, at most 2 segments", "at 0: p7 empty", FREE),
+    Reason(True, 11, reason("row_packet", 7, known=fact(1, 0, 0, 0, 10, 2), to=0),
            "p7 head sole, last 10, at most 2 segments", "at 0: p7 empty", ROW),
-    Reason(False, 6, {"case": "too_little", "count": 1, "known": 0, "packet": 2, "part": "tail", "start": str(2 ** 64 - 1)},
+    Reason(False, 6, reason("too_little", 2, 1, 0, str(2 ** 64 - 1), 1),
            "p2 tailroom 0", f"p2 tailroom {2 ** 64 - 1} + 1", f"bound the index before it by jlt or and: it can be {2 ** 64 - 1}"),
-    Reason(False, 8, {"case": "too_long", "known": 64, "more": 1, "other": 0, "packet": 1},
+    Reason(False, 8, reason("too_long", 1, 0, 64, 1),
            "p1 at most 64 segments, p0 at most 1 segment", "at most 64 together", "let the port or ring take packets of fewer segments"),
 )
 

@@ -2,7 +2,7 @@
 from typing import NamedTuple
 
 from documents import Document
-from faulty_files import go_to
+from faulty_files import folder_with, go_to
 
 # How files of other formats begin, and the command that makes a capture of each.
 PCAPNG = "it is a pcapng file; editcap -F nsecpcap IN OUT converts it to a capture"
@@ -79,7 +79,8 @@ def of_capture(document: Document) -> Problem:
 
 def say_capture(document: Document) -> str:
     """The lines after the fault of a capture. If the folder of the pipeline file has it, that is what helps."""
-    kind, folder = document["kind"], document.get("folder")
+    kind = document["kind"]
+    folder = folder_with(document["pipeline"], document["name"]) if kind == "system" and "name" in document else None
     problem = of_capture(document) if kind == "capture" else Problem(SHARED.get(kind) or document["words"], None)
     cure = problem.help if folder is None else go_to(folder)
     lines = {"file": document.get("file"), "because": problem.because, "help": cure}

@@ -12,6 +12,14 @@ MOST_NUMBER = 2**53
 USAGE, FAULT = 2, 3
 
 
+# The numbers of the parts of a run, by their names in the order in which the program prints them; and the states of inputs, by their numbers.
+PARTS = {
+    "pools": "count free least refused room", "rings": "count full left most",
+    "ports": "cut_at full input nobuf oversize pool queue received segs sent truncated",
+}
+STATES = ("whole", "cut", "open")
+
+
 class Refused(Exception):
     """A word that is not taken: what is reported, and the exit status with which the command ends at once."""
 
@@ -23,6 +31,15 @@ class Refused(Exception):
 def number(it: int) -> int | str:
     """A number as a document of --json has it."""
     return it if it <= MOST_NUMBER else str(it)
+
+
+def facts_of_run(given: Document) -> Document:
+    """The facts of a run, with the numbers of its parts by their names."""
+    parts = {part: [dict(zip(names.split(), it)) for it in given[part]] for part, names in PARTS.items()}
+    for port in parts["ports"]:
+        port["input"] = STATES[port["input"]]
+        port["cut_at"] = port["cut_at"] if port["input"] == "cut" else None
+    return given | parts
 
 
 def say_document(document: Document) -> str:

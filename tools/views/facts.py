@@ -20,9 +20,9 @@ class Fact(NamedTuple):
     segs: int
 
 
-def fact_in(members: dict[str, Any] | None) -> Fact | None:
+def fact_in(numbers: list[Any] | None) -> Fact | None:
     """The fact of a document; none for a register without a packet."""
-    return Fact(*(members[name] for name in Fact._fields)) if members else None
+    return Fact(*numbers) if numbers else None
 
 
 def segments(count: int) -> str:

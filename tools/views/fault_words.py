@@ -3,7 +3,7 @@ import re
 from typing import NamedTuple
 
 from documents import Document, Saying
-from faulty_files import MARKED, ORDER_MARK, because, go_to, helps, lines_of, text_in
+from faulty_files import MARKED, ORDER_MARK, because, folder_with, go_to, helps, lines_of, text_in
 from pipeline_faults import has_route, pipeline_help
 from program_faults import CAUSES, program_help
 
@@ -130,8 +130,8 @@ def unread_node_said(document: Document) -> str:
     unread = document.get("unread")
     if unread is None:
         return because(NOT_FETCHED)
-    folder = document["pipeline"].rpartition("/")[0] or "/" if unread["beside"] else ""
-    return f"  file: {unread['file']}\n" + unread_said(unread) + (helps(go_to(folder)) if folder else "")
+    folder = folder_with(document.get("pipeline"), unread["file"])
+    return f"  file: {unread['file']}\n" + unread_said(unread) + ("" if folder is None else helps(go_to(folder)))
 
 
 def program_said(document: Document, failed: Failed) -> str:

@@ -1,7 +1,7 @@
 """What a run lost, with what helps."""
 from typing import NamedTuple
 
-from documents import Document, plural
+from documents import Document, facts_of_run, plural
 
 # The bytes of a cache line, of which a region is a multiple, and of the smallest region.
 LINE, MIN_REGION = 64, 4_096
@@ -100,6 +100,7 @@ def of_truncated(k: int, records: int) -> str:
     return f"port {k}: {were} cut by the capture's snap length: capture with a larger -s\n" if records else ""
 
 
-def say_losses(facts: Document) -> str:
+def say_losses(given: Document) -> str:
     """What a run lost."""
+    facts = facts_of_run(given)
     return of_run(facts) + "".join(of_truncated(k, port["truncated"]) for k, port in enumerate(facts["ports"]))

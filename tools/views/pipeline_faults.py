@@ -1,5 +1,5 @@
 """What is said of a text that is no pipeline: which line of it is at fault, and what helps (docs/reference/pipelines.md)."""
-import json
+import tomllib
 from collections.abc import Callable
 from dataclasses import dataclass
 from typing import Any, NamedTuple
@@ -8,9 +8,8 @@ from documents import Document
 from faulty_files import helps, is_capture, line_at, lines_of, meant, place, text_in, trim
 from program_text import Line
 
-# A table of TOML, as JSON has it, and the only key of a time.
+# A table of TOML.
 Table = dict[str, Any]
-TIME = "$__toml_private_datetime"
 
 
 class Wanted(NamedTuple):
@@ -22,7 +21,7 @@ class Wanted(NamedTuple):
 
 def is_table(value: Any) -> bool:
     """Whether a value is a table."""
-    return isinstance(value, dict) and value.keys() != {TIME}
+    return isinstance(value, dict)
 
 
 def is_whole(value: Any) -> bool:
@@ -152,7 +151,7 @@ class PipelineFile:
         table = self.table(part, index)
         if table is None:
             return None
-        cures = [(key, unknown_help(part, table, key)) for key in table if key not in KEYS[part]][:1]
+        cures = [(key, unknown_help(part, table, key)) for key in sorted(table) if key not in KEYS[part]][:1]
         cures += [(key, cure) for key in KEYS[part] if (cure := value_help(part, table, key)) is not None][:1]
         if not cures:
             return None
@@ -228,10 +227,10 @@ def pipeline_help(document: Document) -> str:
     other = other_help(file, document)
     if other is not None:
         return place(file, None) + helps(other)
-    if "table" not in document:
-        before = text.encode()[: document["offset"]]
+    if "message" in document:
+        before = text.encode()[: document.get("offset", 0)]
         return place(file, line_at(text, before.count(b"\n") + 1)) + helps(document["message"])
-    it, (cause, *words) = PipelineFile(file, text, json.loads(document["table"]), document["routes"]), document["error"].split()
+    it, (cause, *words) = PipelineFile(file, text, tomllib.loads(text), document["routes"]), document["error"].split()
     if cause == "2":
         return it.key_help(words[1], int(words[2])) or ""
     if cause == "3":

@@ -1,5 +1,7 @@
 """Texts of node programs (docs/users/nodes.md), for all that reads one: their lines in parts, their instructions in order, and their numbers."""
 import re
+from dataclasses import dataclass
+from functools import cached_property
 from typing import NamedTuple
 
 from node_forms import GREATEST, JUMPS
@@ -11,39 +13,40 @@ BUILT = "Built from "
 NUMERAL, HEX = re.compile("[0-9]+"), re.compile("[0-9a-fA-F]+")
 
 
-class Line(NamedTuple):
-    """A line: its number, from 1, and its text without the blanks at its ends. Its parts have no blanks around them."""
+@dataclass(frozen=True)
+class Line:
+    """A line: its number, from 1, and its text without the blanks at its ends. Its parts have no blanks around them, and each is found once."""
 
     number: int
     text: str
 
-    @property
+    @cached_property
     def code(self) -> str:
         """The labels and the instruction."""
         return self.text.partition("#")[0].strip(BLANKS)
 
-    @property
+    @cached_property
     def comment(self) -> str | None:
         """The comment without the `#`, if there is one."""
         _, mark, comment = self.text.partition("#")
         return comment.strip(BLANKS) if mark else None
 
-    @property
+    @cached_property
     def labels(self) -> list[str]:
         """The names of its labels. In a faulty text one may be empty."""
         return [name.strip(BLANKS) for name in self.code.split(":")[:-1]]
 
-    @property
+    @cached_property
     def instruction(self) -> str:
         """The instruction; empty if there is none."""
         return self.code.rpartition(":")[2].strip(BLANKS)
 
-    @property
+    @cached_property
     def word(self) -> str:
         """The word of the instruction."""
         return re.split(f"[{BLANKS}]", self.instruction, maxsplit=1)[0]
 
-    @property
+    @cached_property
     def operands(self) -> list[str]:
         """The operands of the instruction: at least one, which is empty if there is none."""
         return [it.strip(BLANKS) for it in self.instruction.removeprefix(self.word).split(",")]

@@ -8,8 +8,9 @@ from facts import Fact, fact_in, measured, segments, words_of
 from node_forms import GREATEST, RANGES
 from program_text import BUILT, Instruction, Line, instructions_in
 
-# The most bytes for which an instruction can test, and the instruction that tests each measure.
+# The most bytes for which an instruction can test, the measures by their numbers, and the instruction that tests each.
 MAX_TESTED, TESTS = RANGES["c"][1], {"head": "ifhead", "tail": "iftail", "first": "iflen", "last": "iflast"}
+PARTS = tuple(TESTS)
 RULES = {
     1: "J1: the certificate has a row for each instruction",
     2: "J2: what is known at the entry is enough for the first row",
@@ -22,6 +23,19 @@ RULES = {
     9: "J9: the port exists, and the packet satisfies what the ring declares",
     10: "J10: at exit no register holds a packet",
     11: "J11: the facts after the instruction satisfy the row of each successor",
+}
+
+
+# The names of the numbers of each reason, in the order in which the program prints them, and which facts it has.
+NUMBERS = {
+    "row_count": "known wanted", "row_packet": "packet", "row_group": "packet group", "row_number": "register known wanted",
+    "no_pool": "pool known", "no_table": "table known", "no_ring": "ring known", "no_instruction": "to known", "not_held": "packet",
+    "not_empty": "packet", "one_register": "packet", "too_little": "packet part known start count", "not_alone": "packet wanted",
+    "too_long": "packet other known more", "no_port": "register known ports", "less_than_ring": "packet ring", "left_over": "packet",
+}
+FACTS = {
+    "row_packet": ("known", "wanted"), "row_group": ("known", "wanted"), "not_empty": ("known",), "not_alone": ("known",),
+    "less_than_ring": ("known", "wanted"), "left_over": ("known",),
 }
 
 
@@ -47,7 +61,7 @@ class Refusal:
         return self.listing[self.label].line if self.label < len(self.listing) else Line(0, "")
 
     def number(self, name: str) -> int:
-        """A member that is a number; one above 2^53 is a string."""
+        """A member that is a number."""
         return int(self.members.get(name, 0))
 
     def fact(self, name: str) -> Fact | None:
@@ -55,12 +69,23 @@ class Refusal:
         return fact_in(self.members.get(name))
 
 
+def members_of(reason: Document) -> Document:
+    """The members of a reason, by their names. A number above 2^53 is a string."""
+    case = reason["case"]
+    members = {name: int(number) for name, number in zip(NUMBERS.get(case, "").split(), reason["numbers"])}
+    if "part" in members:
+        members["part"] = PARTS[members["part"]]
+    if "to" in reason:
+        members["to"] = reason["to"]
+    return members | {name: reason[name] for name in FACTS.get(case, ())}
+
+
 def refusal_in(node: Document) -> Refusal:
     """The refusal that a document has."""
     at, why = node["refused"], node["why"]
     text, reason = why["text"], why["reason"]
     place = (node["node"], at["given"], at["label"], at["rule"], why["file"])
-    return Refusal(*place, instructions_in(text), text.startswith(f"# {BUILT}"), why["segs"], reason["case"], reason)
+    return Refusal(*place, instructions_in(text), text.startswith(f"# {BUILT}"), why["segs"], reason["case"], members_of(reason))
 
 
 Test = Callable[[Refusal], bool]

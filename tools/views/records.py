@@ -77,6 +77,11 @@ def said_segment(length: int, refs: int, digits: str) -> str:
     return f"        {plural(length, 'byte')}{shared}" + (":" if length else "") + spaced(digits) + (" .." if length > SHOWN else "")
 
 
+def instr_at(program: list[Instruction], label: int) -> Instruction:
+    """The instruction at a label of a program."""
+    return program[label] if label < len(program) else NOTHING
+
+
 def act_of(event: Document, instr: Instruction) -> str | None:
     """What an instruction did with a packet: freed, sent, or cut with the node run; nothing if it did none of these."""
     if event["way"] == "cut":
@@ -104,10 +109,6 @@ class Turn:
         """A node run begins: its registers are empty until its packet comes."""
         self.node, self.program = node, self.programs.get(node, [])
         self.values[:RING], self.held, self.next = [0] * RING, set(), []
-
-    def instr(self, label: int) -> Instruction:
-        """The instruction at a label of the node that runs."""
-        return self.program[label] if label < len(self.program) else NOTHING
 
     def changed(self, values: list[int | str]) -> dict[int, int]:
         """The values that changed, by their places. A number above 2^53 is a string."""
@@ -150,7 +151,7 @@ class Turn:
         others = [said_value(place, number) for place, number in changed.items() if RING <= place < CALLS]
         changes = [*numbers, *packets, *others, *self.stored(event)]
         if "node" not in event:
-            instr = self.instr(event["label"])
+            instr = instr_at(self.program, event["label"])
             self.note(event, instr)
             return Shown([], self.node, event["label"], instr.line.text, calls + changes)
         if "bytes" in event:
@@ -199,13 +200,11 @@ class Record:
 
 def acts(record: Document, programs: Programs) -> Iterator[str]:
     """What the instructions of a record did with packets."""
-    turn = Turn(programs)
+    program: list[Instruction] = []
     for event in record["events"]:
         if "node" in event:
-            turn.begin(event["node"])
-            continue
-        act = act_of(event, turn.instr(event["label"]))
-        if act:
+            program = programs.get(event["node"], [])
+        elif act := act_of(event, instr_at(program, event["label"])):
             yield act
 
 

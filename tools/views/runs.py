@@ -1,7 +1,7 @@
 """What is said of a run beyond its report: its counts, and its document of --json."""
 from counted_programs import Program, Step, program_of
 from counts import LineCounts, Place, lines_of, named_in, places_of, say_lines, say_place, say_refusals
-from documents import Document, number, say_document
+from documents import Document, facts_of_run, number, say_document
 from node_forms import ENDS, JUMPS
 from program_text import Line, number_in
 
@@ -11,9 +11,10 @@ def programs_in(facts: Document) -> list[Program]:
     return [program_of(node) for node in facts.get("nodes", [])]
 
 
-def say_counts(facts: Document) -> str:
+def say_counts(given: Document) -> str:
     """The counts of a run that are wanted, after the programs with the counts of each instruction."""
-    programs, text = programs_in(facts), ""
+    facts, text = facts_of_run(given), ""
+    programs = programs_in(facts)
     if facts["counts"]:
         text += say_refusals("port", "full", [it["full"] for it in facts["ports"]])
         text += say_refusals("pool", "refused", [it["refused"] for it in facts["pools"]])
@@ -120,6 +121,6 @@ def parts_of(facts: Document) -> Document:
     return document
 
 
-def say_run(facts: Document) -> str:
+def say_run(given: Document) -> str:
     """The document of a run."""
-    return say_document(parts_of(facts))
+    return say_document(parts_of(facts_of_run(given)))

@@ -68,13 +68,33 @@ def counts_of(document: Any, name: str) -> list[Count]:
     raise BadMember(f"it has no counts of {name}")
 
 
+def not_json(text: str, at: int) -> BadMember:
+    """What is wrong with a text that is not JSON from this place on."""
+    before = text[:at]
+    column = at - before.rfind("\n") - (at == len(text))
+    return BadMember(f"line {before.count(chr(10)) + 1} column {column}: the text is not JSON")
+
+
+def read_json(text: str) -> Any:
+    """The document that a text spells. One that ends too soon is at fault where it ends."""
+
+    def constant(word: str) -> float:
+        raise not_json(text, text.find(word))
+
+    try:
+        return json.loads(text, parse_int=digits_of, parse_constant=constant)
+    except json.JSONDecodeError as error:
+        is_cut = error.msg.startswith("Unterminated") or error.pos >= len(text.rstrip())
+        raise not_json(text, len(text) if is_cut else error.pos) from error
+    except RecursionError as error:
+        raise BadMember("the text has brackets in too many brackets") from error
+
+
 def read_counts(document: Document) -> list[Count]:
-    """The counts in a file of which the program says whether it is JSON."""
-    if document.get("text") is None:
+    """The counts in a file."""
+    if "text" not in document:
         raise BadMember("it is not UTF-8")
-    if document["line"]:
-        raise BadMember(f"line {document['line']} column {document['column']}: the text is not JSON")
-    return counts_of(json.loads(document["text"], parse_int=digits_of), document["node"])
+    return counts_of(read_json(document["text"]), document["node"])
 
 
 def fault_of(file: str, reason: str, cure: str) -> Refused:

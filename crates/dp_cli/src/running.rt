@@ -12,9 +12,9 @@ ghost use Rattle.dp_region.specs.Region.{IsRegionSize};
 ghost use Rattle.dp_request.specs.Operands.{calls_in, option_within, words_of};
 
 use dp_captures::{
-    BUFFER, CaptureFault, CaptureNames, CaptureReason, Direction, InputOf, OutputOf, ReadFile,
-    Replaced, Replacements, UNBUFFERED, WordProblem, captures_of, names_of, note_read,
-    open_captures, remove_empty_outputs,
+    BUFFER, CaptureFault, CaptureNames, Direction, InputOf, OutputOf, ReadFile, Replaced,
+    Replacements, UNBUFFERED, WordProblem, captures_of, names_of, note_read, open_captures,
+    remove_empty_outputs,
 };
 use dp_console::{Reply, Text};
 use dp_counts::{Counting, ProgramText, Wanted};
@@ -24,10 +24,10 @@ use dp_model::{Entry, Env, MAX_ROOM, MAX_SEGMENTS, MIN_PORT_ROOM, PoolSpec, Port
 use dp_region::{CACHE_LINE, MAX_REGION, MIN_REGION};
 use dp_request::{Given, Loaded, Request, load_pipeline, number_in, numbers_in, read_nodes};
 use dp_runs::{Notes, Printing, Watcher, both, problem_of_run, reply_of, run_over, say_problem};
-use dp_sources::{Fault, Lent, ONE_REGION, Sources, Subject, folder_with, one_env};
+use dp_sources::{Fault, Lent, ONE_REGION, Sources, Subject, one_env};
 use dp_verdict::{failed, no_node, unloaded};
 use std::alloc::{AllocError, Global};
-use std::io::{ErrorKind, Read};
+use std::io::Read;
 use std::rt::Files;
 
 /// Reads which allocation calls the command line refuses.
@@ -111,23 +111,17 @@ fn aside(alloc: Global, reply: Reply, is_stdout_taken: bool) -> Reply
     }
 }
 
-/// The reply to captures that are not opened. A capture that is not found may be in the folder of the pipeline file.
-pub fn unopened<R: Files>(request: &Request<'_, '_, R>, fault: CaptureFault<'_>) -> Reply
+/// The reply to captures that are not opened.
+pub fn unopened<R>(request: &Request<'_, '_, R>, fault: CaptureFault<'_>) -> Reply
     ensures { result.status ≡ status_unopened fault.entry }
 {
     let alloc = request.alloc;
     let CaptureFault::File { name, problem } = fault else {
         return request.without_memory();
     };
-    let mut folder = None;
-    if let CaptureReason::System(error) = problem.reason
-        && error.kind() == ErrorKind::NotFound
-        && let Some(file) = request.words.get_str("FILE")
-    {
-        folder = folder_with(request.rt, alloc, file, name);
-    }
     let mut reply = failed(alloc, Fault::File(name), request.flag("json"));
-    say_problem(alloc, problem, folder, &mut reply.err);
+    let unopened = Some((name, request.word("FILE")));
+    say_problem(alloc, problem, unopened, &mut reply.err);
     reply
 }
 

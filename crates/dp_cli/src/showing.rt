@@ -7,12 +7,10 @@ use dp_model::{Entry, Env};
 use dp_request::{Request, read_file};
 use dp_sources::{Asked, MAX_NODES, Sources, Subject, entry_at};
 use dp_verdict::{judge, no_node, unloaded};
-use serde_json::Value;
 use std::alloc::Global;
 use std::rt::Files;
 
-/// The document of a file of counts for a node: its text, and the line and the column at which that is not JSON, or 0. A file that is not UTF-8 has no
-/// text.
+/// The document of a file of counts for a node. A file that is not UTF-8 has no text.
 pub fn counted_in<R: Files>(
     request: &Request<'_, '_, R>,
     name: &str,
@@ -20,21 +18,11 @@ pub fn counted_in<R: Files>(
 ) -> Result<Text, Reply> {
     let (alloc, source) = (request.alloc, read_file(request, name)?);
     let (mut out, mut to) = (Text::new(alloc), Document::new(alloc));
-    let text = str::from_utf8(source.bytes.as_slice()).ok();
-    let (mut line, mut column) = (0, 0);
-    if let Some(text) = text
-        && let Err(error) = Value::from_str(alloc, text)
-    {
-        (line, column) = (error.line() as u64, error.column() as u64);
-        out.has_failed = error.is_memory();
-    }
     to.begin_object("");
     to.item("view", Item::Text("counted"));
-    to.item("column", Item::Number(column));
     to.item("file", Item::Text(name));
-    to.item("line", Item::Number(line));
     to.shown("node", NodeName(node));
-    if let Some(text) = text {
+    if let Ok(text) = str::from_utf8(source.bytes.as_slice()) {
         to.item("text", Item::Text(text));
     }
     to.end_object();

@@ -111,30 +111,21 @@ pub fn sizes_of(env: &Env) -> Sizes
     each_of(env)
 }
 
-/// Writes a list of numbers.
-fn write_list(name: &str, numbers: &[u64], to: &mut Document) {
-    to.begin_list(name);
-    for number in numbers {
-        to.item("", Item::Number(*number));
-    }
-    to.end_list();
-}
-
 /// Adds the document of what the engine of an environment takes, zone by zone and in all, and of the size of the region, in bytes.
 pub fn say_sizes(alloc: Global, env: &Env, region: u32, out: &mut Text) {
     let (sizes, mut to) = (sizes_of(env), Document::new(alloc));
     to.begin_object("");
     to.item("view", Item::Text("sizes"));
     write_env(env, &mut to);
-    write_list("lists", sizes.lists.as_slice(), &mut to);
+    to.numbers("lists", sizes.lists.as_slice());
     to.item("needed", Item::Number(need(env)));
     to.begin_list("pools");
     for pool in sizes.pools.as_slice() {
-        write_list("", &[pool.buffers, pool.queue], &mut to);
+        to.numbers("", &[pool.buffers, pool.queue]);
     }
     to.end_list();
     to.item("region", Item::Number(u64::from(region)));
-    write_list("rings", sizes.rings.as_slice(), &mut to);
+    to.numbers("rings", sizes.rings.as_slice());
     to.end_object();
     to.say_to(out);
 }

@@ -27,6 +27,20 @@ pub struct Document {
     has_more: bool,
 }
 
+/// Adds a string in quotes. A quote, a backslash and a control character are escaped, since JSON has none of them in a string.
+fn say_quoted(text: &str, out: &mut Text) {
+    out.say("\"");
+    for character in text.chars() {
+        match character {
+            '"' => out.say("\\\""),
+            '\\' => out.say("\\\\"),
+            '\0'..='\u{1f}' => out.say(format_args!("\\u{:04x}", u32::from(character))),
+            _ => out.say(character),
+        }
+    }
+    out.say("\"");
+}
+
 impl Document {
     /// An empty document.
     pub fn new(alloc: Global) -> Document {
@@ -84,10 +98,7 @@ impl Document {
             Item::Bool(value) => out.say(value),
             Item::Number(number) if number > MAX_NUMBER => out.say(format_args!("\"{number}\"")),
             Item::Number(number) => out.say(number),
-            Item::Text(text) => match serde_json::to_string(self.alloc, &text) {
-                Ok(quoted) => out.say(quoted.as_str()),
-                Err(_) => out.has_failed = true,
-            },
+            Item::Text(text) => say_quoted(text, out),
         }
     }
 
@@ -97,6 +108,15 @@ impl Document {
         text.say(value);
         self.text.has_failed |= text.has_failed;
         self.item(name, Item::Text(text.words()));
+    }
+
+    /// Adds a list of numbers.
+    pub fn numbers(&mut self, name: &str, all: &[u64]) {
+        self.begin_list(name);
+        for number in all {
+            self.item("", Item::Number(*number));
+        }
+        self.end_list();
     }
 
     /// Adds values.

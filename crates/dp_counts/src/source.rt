@@ -79,12 +79,13 @@ fn lines_of<'a>(
     instrs: &[Instr],
     places: &[usize],
 ) -> Result<Vec<SourceLine<'a>>, AllocError> {
-    let (mut lines, mut label) = (Vec::new(alloc), 0usize);
-    let text = text.strip_suffix(b"\n").unwrap_or(text);
-    for (k, text) in text.split(|byte| *byte == b'\n').enumerate() {
+    let (mut lines, mut label, mut number) = (Vec::new(alloc), 0usize, 0usize);
+    let whole = text.strip_suffix(b"\n").unwrap_or(text);
+    for text in whole.split(|byte| *byte == b'\n') {
+        number = number.saturating_add(1);
         let mut step = None;
-        if let (Some(place), Some(instr)) = (places.get(label), instrs.get(label))
-            && *place == k.saturating_add(1)
+        if places.get(label) == Some(&number)
+            && let Some(instr) = instrs.get(label)
         {
             let role = Role::of(instr);
             step = Some(Step { label, role });

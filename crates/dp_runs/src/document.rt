@@ -1,4 +1,5 @@
-//! What is known of a run, as documents of facts, which tools/views puts into words.
+//! What is known of a run, as documents of facts, which tools/views puts into words. A pool, a port and a ring are lists of numbers, of which tools/views
+//! has the names.
 
 use crate::reply::{Printing, StopText, status_of};
 use crate::run::Ran;
@@ -78,14 +79,8 @@ impl Printing<'_, '_> {
             if let Some(pool) = report.pools.as_slice().get(k)
                 && let Some(own) = self.env.pools().get(k)
             {
-                let members = [
-                    ("count", Item::Number(pool.count)),
-                    ("free", Item::Number(pool.free)),
-                    ("least", Item::Number(u64::from(least[k]))),
-                    ("refused", Item::Number(refused[k])),
-                    ("room", Item::Number(u64::from(own.room))),
-                ];
-                to.object("", &members);
+                let (least, room) = (u64::from(least[k]), u64::from(own.room));
+                to.numbers("", &[pool.count, pool.free, least, refused[k], room]);
             }
         }
         to.end_list();
@@ -99,24 +94,24 @@ impl Printing<'_, '_> {
                 && let Some(own) = self.env.ports().get(k)
             {
                 let (input, cut_at) = match port.state {
-                    InputState::Whole => ("whole", Item::Null),
-                    InputState::Cut(byte) => ("cut", Item::Number(byte)),
-                    InputState::Open => ("open", Item::Null),
+                    InputState::Whole => (0, 0),
+                    InputState::Cut(byte) => (1, byte),
+                    InputState::Open => (2, 0),
                 };
-                let members = [
-                    ("cut_at", cut_at),
-                    ("full", Item::Number(full[k])),
-                    ("input", Item::Text(input)),
-                    ("nobuf", Item::Number(port.nobuf)),
-                    ("oversize", Item::Number(port.oversize)),
-                    ("pool", Item::Number(u64::from(own.pool))),
-                    ("queue", Item::Number(u64::from(own.queue))),
-                    ("received", Item::Number(port.received)),
-                    ("segs", Item::Number(u64::from(own.segs))),
-                    ("sent", Item::Number(port.sent)),
-                    ("truncated", Item::Number(truncated[k])),
+                let numbers = [
+                    cut_at,
+                    full[k],
+                    input,
+                    port.nobuf,
+                    port.oversize,
+                    u64::from(own.pool),
+                    u64::from(own.queue),
+                    port.received,
+                    u64::from(own.segs),
+                    port.sent,
+                    truncated[k],
                 ];
-                to.object("", &members);
+                to.numbers("", &numbers);
             }
         }
         to.end_list();
@@ -129,13 +124,8 @@ impl Printing<'_, '_> {
             if let Some(left) = report.rings.as_slice().get(k)
                 && let Some(own) = self.env.rings().get(k)
             {
-                let members = [
-                    ("count", Item::Number(u64::from(own.count))),
-                    ("full", Item::Number(full[k])),
-                    ("left", Item::Number(*left)),
-                    ("most", Item::Number(u64::from(most[k]))),
-                ];
-                to.object("", &members);
+                let (count, most) = (u64::from(own.count), u64::from(most[k]));
+                to.numbers("", &[count, full[k], *left, most]);
             }
         }
         to.end_list();

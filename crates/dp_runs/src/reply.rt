@@ -97,11 +97,11 @@ pub fn both(first: Text, more: &Text) -> Text
     text
 }
 
-/// Says what is wrong with a capture, as a document. `folder` is that of the pipeline file, if it has the capture.
+/// Says what is wrong with a capture, as a document. Of one that is not opened it has its name and that of the pipeline file, whose folder may have it.
 pub fn say_problem(
     alloc: Global,
     problem: CaptureProblem<'_>,
-    folder: Option<&str>,
+    unopened: Option<(&str, &str)>,
     out: &mut Text,
 ) {
     let (mut to, mut cause, mut seen) = (Document::new(alloc), 0, Seen::NOTHING);
@@ -122,9 +122,6 @@ pub fn say_problem(
     if let Some(file) = problem.file {
         to.item("file", Item::Text(file));
     }
-    if let Some(folder) = folder {
-        to.item("folder", Item::Text(folder));
-    }
     to.begin_list("front");
     for byte in seen.front {
         to.item("", Item::Number(u64::from(byte)));
@@ -133,6 +130,10 @@ pub fn say_problem(
     to.item("kind", Item::Text(kind));
     if let Some(link) = seen.link {
         to.item("link", Item::Number(u64::from(link)));
+    }
+    if let Some((name, pipeline)) = unopened {
+        to.item("name", Item::Text(name));
+        to.item("pipeline", Item::Text(pipeline));
     }
     match problem.reason {
         CaptureReason::System(error) => to.shown("words", error),

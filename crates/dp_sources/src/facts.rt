@@ -49,10 +49,8 @@ fn add_text(to: &mut Document, text: &[u8]) {
 
 /// Adds a file that was not read, and the system's reason. Without one it is too long.
 fn add_unread(to: &mut Document, unread: Unread<'_>) {
-    let is_beside = matches!(unread.error, ReadError::IsBeside(_));
-    to.item("beside", Item::Bool(is_beside));
     to.item("file", Item::Text(unread.name));
-    if let ReadError::System(error) | ReadError::IsBeside(error) = unread.error {
+    if let ReadError::System(error) = unread.error {
         to.shown("reason", error);
     }
 }
@@ -86,8 +84,7 @@ pub fn say_misread(
     let mut to = begun(alloc, "misread");
     to.shown("error", error);
     to.item("file", Item::Text(file));
-    let table = toml::table_from_slice(alloc, text);
-    if let Err(fault) = &table {
+    if let Err(fault) = toml::table_from_slice(alloc, text) {
         err.has_failed |= fault.is_memory();
         to.item("message", Item::Text(fault.message()));
         if let Some(span) = fault.span() {
@@ -103,12 +100,6 @@ pub fn say_misread(
         to.end_object();
     }
     to.end_list();
-    if let Ok(table) = &table {
-        match serde_json::to_string(alloc, table) {
-            Ok(json) => to.item("table", Item::Text(json.as_str())),
-            Err(_) => err.has_failed = true,
-        }
-    }
     add_text(&mut to, text);
     end(to, err);
 }

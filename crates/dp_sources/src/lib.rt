@@ -19,6 +19,4 @@ pub use fault::Fault;
 pub use program::program_of;
 pub use route_files::{RouteFile, joined};
 pub use source::{Lent, ReadError, Source, Sources, Unread};
-pub use subject::{
-    Asked, MAX_NODES, ONE_REGION, Subject, entry_at, folder_with, one_env, read, read_sources,
-};
+pub use subject::{Asked, MAX_NODES, ONE_REGION, Subject, entry_at, one_env, read, read_sources};

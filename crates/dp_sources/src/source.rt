@@ -13,8 +13,6 @@ use std::io;
 pub enum ReadError {
     /// The system's error.
     System(io::Error),
-    /// The system's error for a file that does not exist. One of its name is in the folder of the pipeline file.
-    IsBeside(io::Error),
     /// It has more than 1,048,576 bytes.
     TooLong,
 }

@@ -4,7 +4,6 @@ ghost use Rattle.std.specs.Prelude.{◌≡◌, option_map};
 ghost use Rattle.dp_sources.specs.Subjects.{asked_node, entry_at, env_of, node_of, one_port};
 
 use crate::source::{ReadError, Source, Sources, Unread};
-use dp_console::Text;
 use dp_load::{How, MAX_FILE, Survey};
 use dp_model::{Entry, Env, PoolSpec, PortSpec};
 use std::alloc::{AllocError, Global};
@@ -112,32 +111,6 @@ impl<'a> Subject<'a> {
     }
 }
 
-/// The folder of a file, as its name has it.
-fn folder_of(file: &str) -> Option<&str> {
-    let (folder, _name) = file.rsplit_once('/')?;
-    Some(if folder.is_empty() { "/" } else { folder })
-}
-
-/// The folder of a pipeline file, if that has a file of this name.
-pub fn folder_with<'a, R: Files>(
-    rt: &R,
-    alloc: Global,
-    file: &'a str,
-    name: &str,
-) -> Option<&'a str> {
-    let folder = folder_of(file)?;
-    if name.starts_with('/') {
-        return None;
-    }
-    let mut path_text = Text::new(alloc);
-    path_text.say(format_args!("{folder}/{name}"));
-    let path = str::from_utf8(path_text.bytes.as_slice()).unwrap_or("");
-    match fs::metadata(rt, path) {
-        Ok(metadata) if !metadata.is_dir() && !path_text.has_failed => Some(folder),
-        _ => None,
-    }
-}
-
 /// Reads the file of this name, or says why it is not read.
 ///
 /// # Errors
@@ -159,26 +132,16 @@ pub fn read<R: Files>(rt: &R, alloc: Global, name: &str) -> Result<Source, Alloc
     Ok(Source { name, bytes, error })
 }
 
-/// Reads a file of a subject, which may be in the folder of the pipeline file, unless it is among the sources.
+/// Reads a file, unless it is among the sources.
 fn add_file<R: Files>(
     rt: &R,
     alloc: Global,
-    subject: Subject<'_>,
     name: &str,
     sources: &mut Sources,
 ) -> Result<(), AllocError> {
-    if sources.find(name).is_some() {
-        return Ok(());
+    if sources.find(name).is_none() {
+        sources.files.push(read(rt, alloc, name)?)?;
     }
-    let mut source = read(rt, alloc, name)?;
-    if let Subject::Pipeline { file, .. } = subject
-        && let Some(ReadError::System(error)) = source.error
-        && error.kind() == ErrorKind::NotFound
-        && folder_with(rt, alloc, file, name).is_some()
-    {
-        source.error = Some(ReadError::IsBeside(error));
-    }
-    sources.files.push(source)?;
     Ok(())
 }
 
@@ -200,11 +163,11 @@ pub fn read_sources<R: Files>(
         if (which.is_none() || which == Some(node))
             && let Some(asked) = subject.node(node)
         {
-            add_file(rt, alloc, subject, asked.program, &mut sources)?;
+            add_file(rt, alloc, asked.program, &mut sources)?;
             if how == How::Given
                 && let Some(cert) = asked.cert
             {
-                add_file(rt, alloc, subject, cert, &mut sources)?;
+                add_file(rt, alloc, cert, &mut sources)?;
             }
         }
     }

@@ -1,162 +1,116 @@
-//! Why a program is refused, as members of a document: tools/views has the words.
+//! Why a program is refused, as members of a document: tools/views has the names of its numbers, and the words.
 
-use Value::{Held, Number, Part};
 use dp_check::{Gap, Measure, Reason};
 use dp_console::{Document, Item};
-use dp_model::Fact;
+use dp_model::{Fact, PacketRegister};
 
-/// A value of a reason.
+/// A reason: its name, its numbers in the order in which tools/views names them, and what is known and wanted of a packet.
 #[derive(Clone, Copy)]
-enum Value {
-    None,
-    Number(u64),
-    Held(Fact),
-    Part(Measure),
+struct Case {
+    name: &'static str,
+    numbers: [u64; 5],
+    known: Fact,
+    wanted: Fact,
 }
 
-/// A member of a reason.
-type Member = (&'static str, Value);
+/// A reason of numbers alone.
+fn of_numbers(name: &'static str, numbers: [u64; 5]) -> Case {
+    let (known, wanted) = (Fact::Empty, Fact::Empty);
+    Case {
+        name,
+        numbers,
+        known,
+        wanted,
+    }
+}
 
-/// A member that is left out.
-const NONE: Member = ("", Value::None);
+/// A reason of what is known and wanted of a packet, and of another number.
+fn of_packet(
+    name: &'static str,
+    packet: PacketRegister,
+    other: u64,
+    known: Fact,
+    wanted: Fact,
+) -> Case {
+    let numbers = [u64::from(packet.number()), other, 0, 0, 0];
+    Case {
+        name,
+        numbers,
+        known,
+        wanted,
+    }
+}
 
-/// A reason: its name, and its members in the order of their names.
-type Case = (&'static str, [Member; 5]);
+/// The number of a room or a length.
+fn part_number(part: Measure) -> u64 {
+    match part {
+        Measure::Headroom => 0,
+        Measure::Tailroom => 1,
+        Measure::First => 2,
+        Measure::Last => 3,
+    }
+}
 
 /// The reason that a row wants more than is known. The row is the first one, or that of a successor.
-fn case_of_row(to: Value, gap: Gap) -> Case {
+fn case_of_row(gap: Gap) -> Case {
     match gap {
-        Gap::Dead => ("row_dead", [("to", to), NONE, NONE, NONE, NONE]),
+        Gap::Dead => of_numbers("row_dead", [0; 5]),
         Gap::Packet {
             packet,
             known,
             wanted,
-        } => (
-            "row_packet",
-            [
-                ("known", Held(known)),
-                ("packet", Number(u64::from(packet.number()))),
-                ("to", to),
-                ("wanted", Held(wanted)),
-                NONE,
-            ],
-        ),
+        } => of_packet("row_packet", packet, 0, known, wanted),
         Gap::Group {
             group,
             packet,
             known,
             wanted,
-        } => (
-            "row_group",
-            [
-                ("group", Number(u64::from(group))),
-                ("known", Held(known)),
-                ("packet", Number(u64::from(packet.number()))),
-                ("to", to),
-                ("wanted", Held(wanted)),
-            ],
-        ),
+        } => of_packet("row_group", packet, u64::from(group), known, wanted),
         Gap::Number {
             register,
             known,
             wanted,
-        } => (
-            "row_number",
-            [
-                ("known", Number(known)),
-                ("register", Number(u64::from(register.number()))),
-                ("to", to),
-                ("wanted", Number(wanted)),
-                NONE,
-            ],
-        ),
+        } => {
+            of_numbers(
+                "row_number",
+                [u64::from(register.number()), known, wanted, 0, 0],
+            )
+        }
     }
 }
 
-/// A reason as its name and members.
+/// A reason as its name, its numbers and what it says of packets.
 fn case_of(reason: Reason) -> Case {
     match reason {
-        Reason::RowCount { known, wanted } => (
+        Reason::RowCount { known, wanted } => of_numbers(
             "row_count",
-            [
-                ("known", Number(known as u64)),
-                ("wanted", Number(wanted as u64)),
-                NONE,
-                NONE,
-                NONE,
-            ],
+            [known as u64, wanted as u64, 0, 0, 0],
         ),
-        Reason::NoEntry => ("no_entry", [NONE, NONE, NONE, NONE, NONE]),
-        Reason::EntryRow(gap) => case_of_row(Value::None, gap),
-        Reason::NoPool { pool, known } => (
+        Reason::NoEntry => of_numbers("no_entry", [0; 5]),
+        Reason::NoPool { pool, known } => of_numbers(
             "no_pool",
-            [
-                ("known", Number(known as u64)),
-                ("pool", Number(u64::from(pool))),
-                NONE,
-                NONE,
-                NONE,
-            ],
+            [u64::from(pool), known as u64, 0, 0, 0],
         ),
-        Reason::NoTable { table, known } => (
+        Reason::NoTable { table, known } => of_numbers(
             "no_table",
-            [
-                ("known", Number(u64::from(known))),
-                ("table", Number(u64::from(table))),
-                NONE,
-                NONE,
-                NONE,
-            ],
+            [u64::from(table), u64::from(known), 0, 0, 0],
         ),
-        Reason::NoRing { ring, known } => (
+        Reason::NoRing { ring, known } => of_numbers(
             "no_ring",
-            [
-                ("known", Number(known as u64)),
-                ("ring", Number(u64::from(ring))),
-                NONE,
-                NONE,
-                NONE,
-            ],
+            [u64::from(ring), known as u64, 0, 0, 0],
         ),
-        Reason::NoInstruction { to, known } => (
+        Reason::NoInstruction { to, known } => of_numbers(
             "no_instruction",
-            [
-                ("known", Number(known as u64)),
-                ("to", Number(u64::from(to))),
-                NONE,
-                NONE,
-                NONE,
-            ],
+            [u64::from(to), known as u64, 0, 0, 0],
         ),
-        Reason::NotHeld { packet } => (
-            "not_held",
-            [
-                ("packet", Number(u64::from(packet.number()))),
-                NONE,
-                NONE,
-                NONE,
-                NONE,
-            ],
-        ),
-        Reason::NotEmpty { packet, known } => (
-            "not_empty",
-            [
-                ("known", Held(known)),
-                ("packet", Number(u64::from(packet.number()))),
-                NONE,
-                NONE,
-                NONE,
-            ],
-        ),
-        Reason::OneRegister { packet } => (
+        Reason::NotHeld { packet } => of_packet("not_held", packet, 0, Fact::Empty, Fact::Empty),
+        Reason::NotEmpty { packet, known } => of_packet("not_empty", packet, 0, known, Fact::Empty),
+        Reason::OneRegister { packet } => of_packet(
             "one_register",
-            [
-                ("packet", Number(u64::from(packet.number()))),
-                NONE,
-                NONE,
-                NONE,
-                NONE,
-            ],
+            packet,
+            0,
+            Fact::Empty,
+            Fact::Empty,
         ),
         Reason::TooLittle {
             packet,
@@ -164,85 +118,54 @@ fn case_of(reason: Reason) -> Case {
             known,
             start,
             count,
-        } => (
-            "too_little",
-            [
-                ("count", Number(u64::from(count))),
-                ("known", Number(u64::from(known))),
-                ("packet", Number(u64::from(packet.number()))),
-                ("part", Part(part)),
-                ("start", Number(start)),
-            ],
-        ),
+        } => {
+            let numbers = [
+                u64::from(packet.number()),
+                part_number(part),
+                u64::from(known),
+                start,
+                u64::from(count),
+            ];
+            of_numbers("too_little", numbers)
+        }
         Reason::NotAlone {
             packet,
             known,
             wanted,
-        } => (
-            "not_alone",
-            [
-                ("known", Held(known)),
-                ("packet", Number(u64::from(packet.number()))),
-                ("wanted", Number(u64::from(wanted))),
-                NONE,
-                NONE,
-            ],
-        ),
+        } => of_packet("not_alone", packet, u64::from(wanted), known, Fact::Empty),
         Reason::TooLong {
             front,
             back,
             known,
             more,
-        } => (
-            "too_long",
-            [
-                ("known", Number(u64::from(known))),
-                ("more", Number(u64::from(more))),
-                ("other", Number(u64::from(back.number()))),
-                ("packet", Number(u64::from(front.number()))),
-                NONE,
-            ],
-        ),
+        } => {
+            let numbers = [
+                u64::from(front.number()),
+                u64::from(back.number()),
+                u64::from(known),
+                u64::from(more),
+                0,
+            ];
+            of_numbers("too_long", numbers)
+        }
         Reason::NoPort {
             register,
             known,
             ports,
-        } => (
-            "no_port",
-            [
-                ("known", Number(known)),
-                ("ports", Number(ports as u64)),
-                ("register", Number(u64::from(register.number()))),
-                NONE,
-                NONE,
-            ],
-        ),
+        } => {
+            of_numbers(
+                "no_port",
+                [u64::from(register.number()), known, ports as u64, 0, 0],
+            )
+        }
         Reason::LessThanRing {
             packet,
             ring,
             known,
             wanted,
-        } => (
-            "less_than_ring",
-            [
-                ("known", Held(known)),
-                ("packet", Number(u64::from(packet.number()))),
-                ("ring", Number(u64::from(ring))),
-                ("wanted", Held(wanted)),
-                NONE,
-            ],
-        ),
-        Reason::LeftOver { packet, known } => (
-            "left_over",
-            [
-                ("known", Held(known)),
-                ("packet", Number(u64::from(packet.number()))),
-                NONE,
-                NONE,
-                NONE,
-            ],
-        ),
-        Reason::Successor { to, gap } => case_of_row(Number(u64::from(to)), gap),
+        } => of_packet("less_than_ring", packet, u64::from(ring), known, wanted),
+        Reason::LeftOver { packet, known } => of_packet("left_over", packet, 0, known, Fact::Empty),
+        Reason::EntryRow(gap) | Reason::Successor { gap, .. } => case_of_row(gap),
     }
 }
 
@@ -251,45 +174,22 @@ fn write_fact(name: &str, fact: Fact, to: &mut Document) {
     let Some(held) = fact.holding() else {
         return to.item(name, Item::Null);
     };
-    to.object(
-        name,
-        &[
-            ("first", Item::Number(u64::from(held.first))),
-            ("head", Item::Number(u64::from(held.head))),
-            ("last", Item::Number(u64::from(held.last))),
-            ("segs", Item::Number(u64::from(held.segs))),
-            ("share", Item::Number(u64::from(held.share))),
-            ("tail", Item::Number(u64::from(held.tail))),
-        ],
-    );
-}
-
-/// The name of a room or a length, as what is known of a packet has it.
-fn part_name(part: Measure) -> &'static str {
-    match part {
-        Measure::Headroom => "head",
-        Measure::Tailroom => "tail",
-        Measure::First => "first",
-        Measure::Last => "last",
-    }
+    let (head, tail) = (u64::from(held.head), u64::from(held.tail));
+    let (first, last) = (u64::from(held.first), u64::from(held.last));
+    let (share, segs) = (u64::from(held.share), u64::from(held.segs));
+    to.numbers(name, &[share, head, tail, first, last, segs]);
 }
 
 /// Writes why a rule fails.
 pub fn write_reason(reason: Reason, to: &mut Document) {
-    let (case, members) = case_of(reason);
+    let case = case_of(reason);
     to.begin_object("reason");
-    to.item("case", Item::Text(case));
-    for (name, value) in members.as_slice() {
-        let item = match *value {
-            Value::None => continue,
-            Held(fact) => {
-                write_fact(name, fact, to);
-                continue;
-            }
-            Number(number) => Item::Number(number),
-            Part(part) => Item::Text(part_name(part)),
-        };
-        to.item(name, item);
+    to.item("case", Item::Text(case.name));
+    write_fact("known", case.known, to);
+    to.numbers("numbers", &case.numbers);
+    if let Reason::Successor { to: next, .. } = &reason {
+        to.item("to", Item::Number(u64::from(*next)));
     }
+    write_fact("wanted", case.wanted, to);
     to.end_object();
 }
