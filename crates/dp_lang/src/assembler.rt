@@ -26,7 +26,9 @@ fn read_lines<'a>(alloc: Global, lines: &[&'a [u8]]) -> Result<ProgramSource<'a>
     };
     for (i, text) in lines.iter().enumerate() {
         let line = i + 1;
-        add_line(alloc, &mut source, line, text).map_err(|error| error.at_line(line))?;
+        if let Err(error) = add_line(alloc, &mut source, line, text) {
+            return Err(error.at_line(line));
+        }
     }
     Ok(source)
 }

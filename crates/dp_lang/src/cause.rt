@@ -69,7 +69,7 @@ impl fmt::Display for Cause {
             Cause::LabelUnknown => "LabelUnknown",
             Cause::Size => "Size",
         };
-        write!(f, "{name}")
+        f.write_str(name)
     }
 }
 

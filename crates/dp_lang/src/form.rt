@@ -257,14 +257,16 @@ impl Form {
 pub fn form_of(instr: &Instr) -> Form
     ensures { result ≡ (spelled instr.now).form }
 {
-    forms!(form * instr)
+    let instr = *instr;
+    forms!(form instr)
 }
 
 /// The operands of an instruction, each with its role.
 fn row_of(instr: &Instr) -> Arguments
     ensures { seen_in (listed result) ≡ seen_of instr.now }
 {
-    forms!(row * instr)
+    let instr = *instr;
+    forms!(row instr)
 }
 
 /// The operands of an instruction.

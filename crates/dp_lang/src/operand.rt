@@ -3,7 +3,6 @@
 ghost use Rattle.std.specs.Prelude.{◌≡◌, ◌<◌, ℕ, IfSome, Some, MatchOption};
 ghost use Rattle.std.specs.List.{list_all};
 ghost use Rattle.dp_model.specs.Arithmetic.{greatest};
-ghost use Rattle.dp_lang.specs.Arguments.{constant};
 ghost use Rattle.dp_lang.specs.Kinds as spec;
 ghost use Rattle.dp_lang.specs.Views.{argument, Shows};
 
@@ -78,20 +77,20 @@ pub fn is_name(part: &[u8]) -> bool
     }
 }
 
-fn number_within(least: u64, most: u64, part: &[u8]) -> Result<u64, Cause>
-    ensures { Shows (λ n. constant n) result (spec.number_where (spec.is_within least most) (spec.number_in part.now)) }
+fn number_within<'a>(least: u64, most: u64, part: &[u8]) -> Result<Named<'a>, Cause>
+    ensures { Shows argument result (spec.number_where (spec.is_within least most) (spec.number_in part.now)) }
 {
     match number_in(part) {
-        Some(n) if least <= n && n <= most => Ok(n),
+        Some(n) if least <= n && n <= most => Ok(Named::Constant(n)),
         _ => Err(Cause::BadNumber),
     }
 }
 
-fn width(part: &[u8]) -> Result<u64, Cause>
-    ensures { Shows (λ n. constant n) result (spec.number_where spec.is_width (spec.number_in part.now)) }
+fn width<'a>(part: &[u8]) -> Result<Named<'a>, Cause>
+    ensures { Shows argument result (spec.number_where spec.is_width (spec.number_in part.now)) }
 {
     match number_in(part) {
-        Some(n @ (1 | 2 | 4 | 8)) => Ok(n),
+        Some(n @ (1 | 2 | 4 | 8)) => Ok(Named::Constant(n)),
         _ => Err(Cause::BadNumber),
     }
 }
@@ -102,19 +101,19 @@ pub fn argument_of<'a>(kind: OperandKind, part: &'a [u8]) -> Result<Named<'a>, C
     ensures { Shows argument result (spec.argument_of kind part.now) }
 {
     match kind {
-        OperandKind::Packet => Ok(Named::Packet(register_in(b'p', part).ok_or(
-            Cause::BadRegister,
-        )?)),
-        OperandKind::Register => Ok(Named::Register(register_in(b'r', part).ok_or(
-            Cause::BadRegister,
-        )?)),
-        OperandKind::Number { least, most } => Ok(Named::Constant(number_within(
-            least, most, part,
-        )?)),
-        OperandKind::Width => Ok(Named::Constant(width(part)?)),
+        OperandKind::Packet => match register_in(b'p', part) {
+            Some(index) => Ok(Named::Packet(index)),
+            None => Err(Cause::BadRegister),
+        },
+        OperandKind::Register => match register_in(b'r', part) {
+            Some(index) => Ok(Named::Register(index)),
+            None => Err(Cause::BadRegister),
+        },
+        OperandKind::Number { least, most } => number_within(least, most, part),
+        OperandKind::Width => width(part),
         OperandKind::RegisterOrConstant => match register_in(b'r', part) {
             Some(index) => Ok(Named::Register(index)),
-            None => Ok(Named::Constant(number_within(0, u64::MAX, part)?)),
+            None => number_within(0, u64::MAX, part),
         },
         OperandKind::Label if is_name(part) => Ok(Named::Name(part)),
         OperandKind::Label => Err(Cause::BadLabel),

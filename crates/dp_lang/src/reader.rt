@@ -4,7 +4,7 @@ ghost use Rattle.std.specs.Prelude.{◌≡◌, ◌<◌, ℕ, true, List, map, le
 ghost use Rattle.dp_lang.specs.Causes as causes;
 ghost use Rattle.dp_lang.specs.Kinds.{all_of};
 ghost use Rattle.dp_lang.specs.declared.cause.Cause.{Cause};
-ghost use Rattle.dp_lang.specs.Lines.{labels_in, instruction_in, pieces, trim_start};
+ghost use Rattle.dp_lang.specs.Lines.{labels_in, instruction_in, operands_in, pieces, trim_start};
 ghost use Rattle.dp_lang.specs.Reading as spec;
 ghost use Rattle.dp_lang.specs.Reading.{each_argument, arguments_of, statement_of, label_test, labels_after, line_of};
 ghost use Rattle.dp_lang.specs.Forms as forms;
@@ -56,18 +56,20 @@ fn each_argument<'a>(
     }
 }
 
+/// Reads the operands of a form, with commas between them.
 fn arguments_of<'a>(
     alloc: Global,
     kinds: &[OperandKind],
-    parts: &[&'a [u8]],
+    rest: &'a [u8],
 ) -> Result<Vec<Named<'a>>, LineError>
-    ensures read { ReadsAs (λ v. map argument v.items) result (arguments_of kinds.now (map (λ part. part.now) parts.now)) }
+    ensures read { ReadsAs (λ v. map argument v.items) result (arguments_of kinds.now (operands_in rest.now)) }
     ensures fits { IfOk result (λ v. all_of kinds.now (map argument v.items) ≡ true) }
 {
+    let parts = lines::operands_in(alloc, rest)?;
     if kinds.len() != parts.len() {
         return Err(LineError::Cause(Cause::BadOperands));
     }
-    each_argument(alloc, kinds, parts)
+    each_argument(alloc, kinds, &parts)
 }
 
 /// Reads what follows the last colon of a line as a statement.
@@ -87,8 +89,7 @@ fn statement_in<'a>(
     let Some(form) = Form::of_word(word) else {
         return Err(LineError::Cause(Cause::BadWord));
     };
-    let parts = lines::operands_in(alloc, rest)?;
-    let arguments = arguments_of(alloc, form.kinds(), &parts)?;
+    let arguments = arguments_of(alloc, form.kinds(), rest)?;
     Ok(Some(Statement {
         line,
         form,
@@ -148,20 +149,20 @@ fn merged<'a>(
     }
 }
 
-/// Reads a line that is cut at its colons: adds its labels, and returns its statement.
+/// Cuts a line at its colons, adds its labels, and returns its statement.
 fn read_pieces<'a>(
     alloc: Global,
     source: &mut ProgramSource<'a>,
     line: usize,
-    pieces: &[&'a [u8]],
+    text: &'a [u8],
 ) -> Result<Option<Statement<'a>>, LineError>
-    requires { 0 < length pieces.now }
-    ensures read { let cut = map (λ piece. piece.now) pieces.now in
+    ensures read { let cut = pieces text.now in
         ReadsAs (λ s. (view.some_statement s, source.new.labels)) result
         (spec.both (statement_of (instruction_in cut)) (labels_after (vec_len source.old.statements) source.old.labels (labels_in cut))) }
     ensures line { IfOk result (λ found. IfSome found (λ s. s.line ≡ line)) }
     ensures same { source.new.statements ≡ source.old.statements }
 {
+    let pieces = lines::pieces(alloc, text)?;
     let last = pieces.len() - 1;
     let statement = statement_in(alloc, line, lines::trim_start(pieces[last]));
     let number = source.statements.len() as u16;
@@ -182,12 +183,12 @@ pub fn add_line<'a>(
     if !lines::is_text(text) {
         return Err(LineError::Cause(Cause::BadByte));
     }
-    let pieces = lines::pieces(alloc, text)?;
-    if let Some(statement) = read_pieces(alloc, source, line, &pieces)? {
-        if source.statements.len() == MAX_INSTRS {
-            return Err(LineError::Cause(Cause::Size));
-        }
-        source.statements.push(statement)?;
+    let Some(statement) = read_pieces(alloc, source, line, text)? else {
+        return Ok(());
+    };
+    if source.statements.len() == MAX_INSTRS {
+        return Err(LineError::Cause(Cause::Size));
     }
+    source.statements.push(statement)?;
     Ok(())
 }
