@@ -207,8 +207,7 @@ fn differ(row: &Row, other: &Row) -> bool
 #[tactic(auto, using(crate::proofs::RowLists::all_set))]
 fn reach_again(rows: &mut [Row], program: &[Instr], label: u16, lead: &Lead, slow: bool) -> bool
     requires well_formed { IsTrue (list_all is_well_formed_row rows.old) }
-    ensures rows { rows.new ≡ (spec.reached_again program.now label slow lead.now rows.old).rows }
-    ensures changed { result ≡ (spec.reached_again program.now label slow lead.now rows.old).changed }
+    ensures reached { spec.reached_again program.now label slow lead.now rows.old ≡ record { rows = rows.new; changed = result } }
     ensures well_formed { IsTrue (list_all is_well_formed_row rows.new) }
     ensures long { length rows.new ≡ length rows.old }
 {
@@ -228,10 +227,8 @@ fn pass_again(rows: &mut [Row], program: &[Instr], env: &Env, label: u16, slow: 
     requires same_length { length rows.old ≡ length program.now }
     requires at_most { length program.now ≤ MAX_INSTRS }
     requires well_formed { IsTrue (list_all is_well_formed_row rows.old) }
-    ensures rows { (i : AnyInstr) → slice_get program.now label ≡ Some i →
-        rows.new ≡ (spec.passed_again program.now env.now slow label i rows.old).rows }
-    ensures changed { (i : AnyInstr) → slice_get program.now label ≡ Some i →
-        result ≡ (spec.passed_again program.now env.now slow label i rows.old).changed }
+    ensures passed { (i : AnyInstr) → slice_get program.now label ≡ Some i →
+        spec.passed_again program.now env.now slow label i rows.old ≡ record { rows = rows.new; changed = result } }
     ensures well_formed { IsTrue (list_all is_well_formed_row rows.new) }
     ensures long { length rows.new ≡ length rows.old }
 {
@@ -246,7 +243,7 @@ fn pass_again(rows: &mut [Row], program: &[Instr], env: &Env, label: u16, slow: 
         Leads::Two(lead, other) => {
             let one = reach_again(rows, program, label, &lead, slow);
             let two = reach_again(rows, program, label, &other, slow);
-            one || two
+            one | two
         }
     }
 }

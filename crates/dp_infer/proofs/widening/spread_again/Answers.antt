@@ -1,7 +1,7 @@
 -- One label more.
-use Rattle.std.proofs.Common.{ap, arith, length, ◌<◌}
+use Rattle.std.proofs.Common.{◌≡◌, ◌+◌, ◌||◌, ap, subst, arith, drop, length, ◌<◌}
 use Rattle.dp_model.specs.Laws.Lists.{get_within}
-use Rattle.dp_infer.specs.Widening.{Passed}
+use Rattle.dp_infer.specs.Widening.{Passed, spread_again, weakened_once}
 use Rattle.dp_infer.proofs.Widened.{as_they_are, spread_again_more, spread_again_done}
 use Rattle.dp_infer.proofs.widening.spread_again.Goals as goal
 
@@ -10,7 +10,10 @@ loop-label-preserved c =
     let within : c.loop-label.label < length c.args.program.now = omega arith in
     let (i, at_i) = get_within c.args.program.now c.loop-label.label within in
     record {
-      passed = rw (c.pass_again-again.ensures.rows i at_i, c.pass_again-again.ensures.changed i at_i)
+      passed = subst (λ (q : Passed). spread_again c.args.program.now c.args.env.now c.args.slow (drop (c.loop-label.label + 1) c.args.program.now)
+          (c.loop-label.label + 1) (as_they_are q.rows (c.loop-label.changed || q.changed))
+          ≡ weakened_once c.args.program.now c.args.env.now c.args.slow c.args.rows.now)
+          (c.pass_again-again.ensures.passed i at_i)
           (spread_again_more c.args.program.now c.args.env.now c.args.slow c.loop-label.label i (as_they_are c.loop-label.rows c.loop-label.changed) _ at_i
           c.loop-label.invariant.passed);
       long = omega (arith, c.pass_again-again.ensures.long);
