@@ -115,6 +115,11 @@ fn take_stdout(names: &[CaptureNames]) -> bool {
     names.iter().any(|port| port.output_place == Place::Stream)
 }
 
+/// Where texts go: the first of these names that means a plain file.
+fn text_target<R: Files>(rt: &R, first: &str, own: &str) -> Result<Target<'static>, AllocError> {
+    Ok(target_of(plain_file(rt, first)?.or(plain_file(rt, own)?)))
+}
+
 /// The files of a run that no output may be: those that it reads, its inputs, and those to which texts go.
 pub fn files_of_run<'a, R: Files>(
     rt: &R,
@@ -126,12 +131,12 @@ pub fn files_of_run<'a, R: Files>(
     requires { length inputs.now ≤ length names.now }
     ensures { IfOk result (λ kept. spec.AreFilesOf reads.now inputs.now kept.items) }
 {
-    let err = target_of(plain_file(rt, FIRST_ERR)?.or(plain_file(rt, "/dev/stderr")?));
+    let err = text_target(rt, FIRST_ERR, "/dev/stderr")?;
     // If an output is standard output, texts go to standard error.
     let out = if take_stdout(names) {
         Target::Other
     } else {
-        target_of(plain_file(rt, FIRST_OUT)?.or(plain_file(rt, "/dev/stdout")?))
+        text_target(rt, FIRST_OUT, "/dev/stdout")?
     };
     let mut kept = Vec::new(alloc);
     keep_reads(&mut kept, reads)?;
@@ -204,7 +209,9 @@ pub fn refuse_named<'a, R: Files>(
         let Ok(target) = target_named(rt, port) else {
             return Err(CaptureFault::Memory);
         };
-        add_output(&mut kept, target, port)?;
+        if let Err(fault) = add_output(&mut kept, target, port) {
+            return Err(fault);
+        }
     }
     Ok(())
 }
@@ -221,7 +228,9 @@ pub fn refuse_open<'a, F: Write + OpenFile + Drop>(
 {
     for port in 0..outputs.len() {
         let target = target_of(outputs[port].get_ref().get_ref().get_ref().id);
-        add_output(&mut kept, target, &names[port])?;
+        if let Err(fault) = add_output(&mut kept, target, &names[port]) {
+            return Err(fault);
+        }
     }
     Ok(())
 }

@@ -202,14 +202,14 @@ pub fn remove_empty_outputs<R: Files>(
     names: &[CaptureNames],
     outputs: &[OutputOf<R::File>],
 ) {
-    for (port, output) in names.iter().zip(outputs) {
-        let guarded = output.get_ref().get_ref();
+    for port in 0..outputs.len() {
+        let guarded = outputs[port].get_ref().get_ref();
         let file = guarded.get_ref();
         if file.is_new
             && (!file.is_emptied || guarded.failure().is_some())
-            && let Some(id) = file.id
+            && let (Some(id), Some(names)) = (file.id, names.get(port))
         {
-            remove_if_empty(rt, alloc, port.output.as_str(), id);
+            remove_if_empty(rt, alloc, names.output.as_str(), id);
         }
     }
 }

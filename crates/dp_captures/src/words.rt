@@ -153,7 +153,10 @@ fn add_words<'a>(
         ≡ None) }
 {
     for word in words {
-        let one = added(direction, form, word, given.as_slice())?;
+        let one = match added(direction, form, word, given.as_slice()) {
+            Ok(one) => one,
+            Err(problem) => return Err(problem),
+        };
         if given.push(one).is_err() {
             return Err(WordProblem::Memory);
         }
@@ -182,32 +185,48 @@ pub fn captures_of<'a>(
     Ok(given)
 }
 
+/// Writes these texts, one after the other.
+fn say<W: fmt::Write>(f: &mut fmt::Formatter<W>, texts: &[&str]) -> fmt::Result {
+    for text in texts {
+        f.write_str(text)?;
+    }
+    Ok(())
+}
+
 impl fmt::Display for WordProblem<'_> {
     fn fmt<W: fmt::Write>(&self, f: &mut fmt::Formatter<W>) -> fmt::Result {
         let (direction, one, other) = match *self {
             WordProblem::Memory => return f.write_str("fault: memory"),
             WordProblem::Unread(word, form) => {
-                write!(f, "error: '{word}' is not ")?;
-                return f.write_str(match form {
+                let wanted = match form {
                     WordForm::Named =>
                         "PORT=NAME: PORT a digit from 0 to 7, NAME a capture, or - for the standard stream",
                     WordForm::Bare => "a port: a digit from 0 to 7",
-                });
+                };
+                return say(f, &["error: '", word, "' is not ", wanted]);
             }
             WordProblem::Clash(direction, one, other) => (direction, one, other),
         };
         let (word, earlier, port) = (one.word, other.word, one.port);
-        let (capture, option, stream) = match direction {
-            Direction::In => ("input", "in", "read standard input"),
-            Direction::Out => ("output", "out", "write standard output"),
-        };
         if other.port != port {
-            write!(f, "error: '{earlier}' and '{word}' both {stream}: ")?;
-            return f.write_str("one port alone can");
+            let both = match direction {
+                Direction::In => "' both read standard input: one port alone can",
+                Direction::Out => "' both write standard output: one port alone can",
+            };
+            return say(f, &["error: '", earlier, "' and '", word, both]);
         }
-        write!(f, "error: '{word}' gives port {port} another {capture}")?;
-        write!(f, " than '{earlier}': one --{option} or --no-{option}")?;
-        f.write_str(" for each port")
+        let (another, rest) = match direction {
+            Direction::In => (
+                " another input than '",
+                "': one --in or --no-in for each port",
+            ),
+            Direction::Out => (
+                " another output than '",
+                "': one --out or --no-out for each port",
+            ),
+        };
+        write!(f, "error: '{word}' gives port {port}")?;
+        say(f, &[another, earlier, rest])
     }
 }
 
@@ -267,10 +286,10 @@ impl<'a> Replacements<'a> {
         ensures inputs { IfOk result (λ given. map row_of given.inputs.items ≡ spec.only input.now ∷ []) }
         ensures outputs { IfOk result (λ given. map row_of given.outputs.items ≡ spec.only output.now ∷ []) }
     {
-        let (mut inputs, mut outputs) = (Vec::new(alloc), Vec::new(alloc));
-        inputs.push(capture_named(input, 0, input))?;
-        outputs.push(capture_named(output, 0, output))?;
-        Ok(Replacements { inputs, outputs })
+        let mut given = Replacements::none(alloc);
+        given.inputs.push(capture_named(input, 0, input))?;
+        given.outputs.push(capture_named(output, 0, output))?;
+        Ok(given)
     }
 
     /// The first of these ports that a pipeline with this number of ports does not have.

@@ -1,9 +1,12 @@
 -- One output more is apart.
-use Rattle.std.proofs.Common.{rules, ◌≡◌, ◌<◌, Err, length, add-one, arith}
+use Rattle.std.proofs.Common.{rules, ◌<◌, length, add-one, arith}
 use Rattle.dp_captures.specs.Guarding.{output_target}
 use Rattle.dp_captures.proofs.Guarding.{apart_more, none_left}
 use Rattle.dp_captures.proofs.Opened.{output_named}
 use Rattle.dp_captures.proofs.guard.refuse_open.Goals as goal
+
+pub bounds-names-port : goal.bounds-names-port
+bounds-names-port g c = omega (arith, c.loop-port-test.true)
 
 pub loop-port-init : goal.loop-port-init
 loop-port-init g c = λ rest. rest
@@ -12,21 +15,18 @@ pub loop-port-preserved : goal.loop-port-preserved
 loop-port-preserved g c rest =
     let within : c.loop-port.port < length c.args.outputs.now = omega (arith, c.loop-port-test.true) in
     c.loop-port.invariant (apart_more output_target c.loop-port.kept.items _ c.args.outputs.now c.loop-port.port c.index-outputs-port.result _ _ within
-    c.index-outputs-port.is (search rules) c.in_ok-add_output.ensures.apart c.in_ok-add_output.ensures.added (rw (add-one c.loop-port.port) at rest))
+    c.index-outputs-port.is (search rules) c.in_default.ensures.apart c.in_default.ensures.added (rw (add-one c.loop-port.port) at rest))
 
 pub returns-clause-apart : goal.returns-clause-apart
 returns-clause-apart g c = c.loop-port.invariant (none_left output_target _ c.args.outputs.now c.loop-port.port (omega (arith, c.loop-port-test.false)))
 
-pub returns-in_err-add_output-clause-apart : goal.returns-in_err-add_output-clause-apart
-returns-in_err-add_output-clause-apart g c =
-    let is : c.from_residual.result ≡ Err c.in_err-add_output.field-0.0 = search rules in
-    rw is tt
+pub returns-in-Err-clause-apart : goal.returns-in-Err-clause-apart
+returns-in-Err-clause-apart g c = tt
 
 pub returns-clause-named : goal.returns-clause-named
 returns-clause-named g c = tt
 
-pub returns-in_err-add_output-clause-named : goal.returns-in_err-add_output-clause-named
-returns-in_err-add_output-clause-named g c =
-    let is : c.from_residual.result ≡ Err c.in_err-add_output.field-0.0 = search rules in
+pub returns-in-Err-clause-named : goal.returns-in-Err-clause-named
+returns-in-Err-clause-named g c =
     let within : c.loop-port.port < length c.args.names.now = omega (arith, c.loop-port-test.true) in
-    rw is (output_named c.args.names.now c.loop-port.port c.index-names-port.result _ _ within c.index-names-port.is c.in_err-add_output.ensures.named)
+    output_named c.args.names.now c.loop-port.port c.index-names-port.result _ _ within c.index-names-port.is c.in-Err.ensures.named

@@ -1,9 +1,43 @@
 -- The captures are open and apart; or the fault is the first.
-use Rattle.std.proofs.Common.{inr}
+use Rattle.std.proofs.Common.{inl, inr, ap, arith, length}
+use Rattle.std.proofs.lemmas.Grind.{common_steps}
 use Rattle.dp_captures.specs.Files.{IsOpenedInput, IsOpenedOutput}
 use Rattle.dp_captures.specs.Names.{input_capture, output_capture}
 use Rattle.dp_captures.proofs.Opened.{all_opened, guarded, if_err, none_opened, on_ok}
 use Rattle.dp_captures.proofs.opening.open_captures.Goals as goal
+
+pub files_of_run-requires : goal.files_of_run-requires
+files_of_run-requires g c = grind (arith, common_steps)
+
+pub files_of_run-requires-2 : goal.files_of_run-requires-2
+files_of_run-requires-2 g c = omega (arith, ap length c.as_slice-2.ensures.value, c.in_default.ensures.all)
+
+pub refuse_open-requires : goal.refuse_open-requires
+refuse_open-requires g c = omega (arith, ap length c.as_slice-3.ensures.value, c.in_default-open_outputs.ensures.all)
+
+pub returns-in-Err-clause-first : goal.returns-in-Err-clause-first
+returns-in-Err-clause-first g c = inl (c.open_inputs.ensures.opened, c.in-Err.ensures.first, c.requires.none.1)
+
+pub returns-in_default-files_of_run-clause-first : goal.returns-in_default-files_of_run-clause-first
+returns-in_default-files_of_run-clause-first g c = inr (
+  all_opened IsOpenedInput input_capture c.args.names.now c.open_inputs.new.inputs.items _ c.in_default.ensures.all c.open_inputs.ensures.opened,
+  none_opened IsOpenedOutput output_capture c.args.names.now c.args.outputs.now.items c.requires.none.1,
+  tt,
+)
+
+pub returns-in-Err-open_outputs-clause-first : goal.returns-in-Err-open_outputs-clause-first
+returns-in-Err-open_outputs-clause-first g c = inr (
+  all_opened IsOpenedInput input_capture c.args.names.now c.open_inputs.new.inputs.items _ c.in_default.ensures.all c.open_inputs.ensures.opened,
+  c.open_outputs.ensures.opened,
+  c.in-Err-open_outputs.ensures.first,
+)
+
+pub returns-in_default-files_of_run-2-clause-first : goal.returns-in_default-files_of_run-2-clause-first
+returns-in_default-files_of_run-2-clause-first g c = inr (
+  all_opened IsOpenedInput input_capture c.args.names.now c.open_inputs.new.inputs.items _ c.in_default.ensures.all c.open_inputs.ensures.opened,
+  c.open_outputs.ensures.opened,
+  tt,
+)
 
 pub returns-in-Err-refuse_named-clause-first : goal.returns-in-Err-refuse_named-clause-first
 returns-in-Err-refuse_named-clause-first g c = inr (
