@@ -4,9 +4,6 @@ use Rattle.dp_captures.specs.Guarding.{input_target, targets}
 use Rattle.dp_captures.proofs.Opened.{one_more, take_past}
 use Rattle.dp_captures.proofs.guard.keep_inputs.Goals as goal
 
-pub bounds-names-port : goal.bounds-names-port
-bounds-names-port g c = omega (arith, c.loop-port-test.true)
-
 pub loop-port-preserved : goal.loop-port-preserved
 loop-port-preserved g c =
     let within : c.loop-port.port < length c.args.inputs.now = omega (arith, c.loop-port-test.true) in

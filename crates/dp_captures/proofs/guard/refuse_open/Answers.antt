@@ -5,9 +5,6 @@ use Rattle.dp_captures.proofs.Guarding.{apart_more, none_left}
 use Rattle.dp_captures.proofs.Opened.{output_named}
 use Rattle.dp_captures.proofs.guard.refuse_open.Goals as goal
 
-pub bounds-names-port : goal.bounds-names-port
-bounds-names-port g c = omega (arith, c.loop-port-test.true)
-
 pub loop-port-init : goal.loop-port-init
 loop-port-init g c = λ rest. rest
 

@@ -1,13 +1,9 @@
 -- The captures are open and apart; or the fault is the first.
 use Rattle.std.proofs.Common.{inl, inr, ap, arith, length}
-use Rattle.std.proofs.lemmas.Grind.{common_steps}
 use Rattle.dp_captures.specs.Files.{IsOpenedInput, IsOpenedOutput}
 use Rattle.dp_captures.specs.Names.{input_capture, output_capture}
 use Rattle.dp_captures.proofs.Opened.{all_opened, guarded, if_err, none_opened, on_ok}
 use Rattle.dp_captures.proofs.opening.open_captures.Goals as goal
-
-pub files_of_run-requires : goal.files_of_run-requires
-files_of_run-requires g c = grind (arith, common_steps)
 
 pub files_of_run-requires-2 : goal.files_of_run-requires-2
 files_of_run-requires-2 g c = omega (arith, ap length c.as_slice-2.ensures.value, c.in_default.ensures.all)
