@@ -600,7 +600,7 @@ def ends_so(program: str, case: Case, folder: pathlib.Path, user: int | None = N
         run = subprocess.run([program, *case.words], cwd=folder, stdin=given, capture_output=True, text=True, timeout=60, user=user)
     kept = (folder / "kept.pcap").read_bytes() == ONE
     # (the line at fault of a text and its cure are tests/program/mistakes.py's)
-    whole = said("", run.stderr)[1]
+    whole = said("", run.stderr, folder)[1]
     reported = whole if case.is_whole else re.sub(r"(?m)^  (?:at|help): .*\n", "", whole)
     passed = (run.returncode, reported, kept) == (case.status, case.reported, True)
     if not passed:

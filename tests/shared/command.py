@@ -6,7 +6,7 @@ import subprocess
 import sys
 import tempfile
 from collections.abc import Iterator
-from contextlib import contextmanager
+from contextlib import chdir, contextmanager
 from typing import Any
 
 HERE = pathlib.Path(__file__).resolve().parent
@@ -75,10 +75,11 @@ def put_library(name: str, folder: pathlib.Path) -> pathlib.Path | None:
     return library
 
 
-def said(printed: str, reported: str = "") -> tuple[str, str]:
-    """What `dpv` says where the program prints and reports this: tools/views makes words of its documents."""
+def said(printed: str, reported: str = "", folder: pathlib.Path = pathlib.Path()) -> tuple[str, str]:
+    """What `dpv` says in a folder where the program prints and reports this: tools/views makes words of its documents."""
     sayings = Sayings()
-    return sayings.of_text(printed), sayings.of_text(reported)
+    with chdir(folder):
+        return sayings.of_text(printed), sayings.of_text(reported)
 
 
 def said_bytes(printed: bytes, reported: bytes = b"") -> tuple[bytes, bytes]:

@@ -1,4 +1,5 @@
 """What is said of a text that is no pipeline: which line of it is at fault, and what helps (docs/reference/pipelines.md)."""
+import re
 import tomllib
 from collections.abc import Callable
 from dataclasses import dataclass
@@ -65,6 +66,31 @@ def list_at(table: Table, key: str) -> list[Any]:
     """The values of an array at a key."""
     values = table.get(key)
     return values if isinstance(values, list) else []
+
+
+# The parts of a text of TOML: strings, comments, and what tables in braces are made of.
+TOKENS = re.compile(r'"""(?:\\.|[^\\])*?"""|\'\'\'.*?\'\'\'|"(?:\\.|[^"\\])*"|\'[^\']*\'|#[^\n]*|[{},\n]|[^"\'#{},\n]+', re.DOTALL)
+
+
+def on_lines(text: str) -> str:
+    """A text with each table in braces on one line and without a last comma, as TOML 1.0 has it: the program takes more."""
+    said: list[str] = []
+    depth = 0
+    for token in TOKENS.findall(text):
+        depth += (token == "{") - (token == "}")
+        while token == "}" and said and said[-1].strip() in ("", ","):
+            said.pop()
+        is_left_out = depth > 0 and (token == "\n" or token.startswith("#"))
+        said.append(" " if is_left_out else token)
+    return "".join(said)
+
+
+def table_in(text: str) -> Table:
+    """The table of a text that the program reads as one."""
+    try:
+        return tomllib.loads(text)
+    except tomllib.TOMLDecodeError:
+        return tomllib.loads(on_lines(text))
 
 
 def array_header(line: str) -> str | None:
@@ -230,7 +256,7 @@ def pipeline_help(document: Document) -> str:
     if "message" in document:
         before = text.encode()[: document.get("offset", 0)]
         return place(file, line_at(text, before.count(b"\n") + 1)) + helps(document["message"])
-    it, (cause, *words) = PipelineFile(file, text, tomllib.loads(text), document["routes"]), document["error"].split()
+    it, (cause, *words) = PipelineFile(file, text, table_in(text), document["routes"]), document["error"].split()
     if cause == "2":
         return it.key_help(words[1], int(words[2])) or ""
     if cause == "3":
