@@ -1,4 +1,5 @@
 """What is said of a text that is no pipeline: which line of it is at fault, and what helps (docs/reference/pipelines.md)."""
+import contextlib
 import re
 import tomllib
 from collections.abc import Callable
@@ -72,7 +73,7 @@ def list_at(table: Table, key: str) -> list[Any]:
 TOKENS = re.compile(r'"""(?:\\.|[^\\])*?"""|\'\'\'.*?\'\'\'|"(?:\\.|[^"\\])*"|\'[^\']*\'|#[^\n]*|[{},\n]|[^"\'#{},\n]+', re.DOTALL)
 
 
-def on_lines(text: str) -> str:
+def as_toml_1_0(text: str) -> str:
     """A text with each table in braces on one line and without a last comma, as TOML 1.0 has it: the program takes more."""
     said: list[str] = []
     depth = 0
@@ -85,12 +86,12 @@ def on_lines(text: str) -> str:
     return "".join(said)
 
 
-def table_in(text: str) -> Table:
-    """The table of a text that the program reads as one."""
-    try:
-        return tomllib.loads(text)
-    except tomllib.TOMLDecodeError:
-        return tomllib.loads(on_lines(text))
+def table_in(text: str) -> Table | None:
+    """The table of a text that the program reads as one; nothing if Python does not."""
+    for given in (text, as_toml_1_0(text)):
+        with contextlib.suppress(tomllib.TOMLDecodeError):
+            return tomllib.loads(given)
+    return None
 
 
 def array_header(line: str) -> str | None:
@@ -256,7 +257,10 @@ def pipeline_help(document: Document) -> str:
     if "message" in document:
         before = text.encode()[: document.get("offset", 0)]
         return place(file, line_at(text, before.count(b"\n") + 1)) + helps(document["message"])
-    it, (cause, *words) = PipelineFile(file, text, table_in(text), document["routes"]), document["error"].split()
+    table = table_in(text)
+    if table is None:
+        return place(file, None)
+    it, (cause, *words) = PipelineFile(file, text, table, document["routes"]), document["error"].split()
     if cause == "2":
         return it.key_help(words[1], int(words[2])) or ""
     if cause == "3":
