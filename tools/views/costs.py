@@ -6,8 +6,7 @@ def loops_of(document: Document) -> list[int]:
     """The rings that lead to themselves, perhaps over others."""
     ways = {int(node["node"].split()[1]): set(node["rings"]) for node in document["nodes"] if node["node"].startswith("ring")}
     for over in ways:
-        for way in ways.values():
-            way |= ways[over] if over in way else set()
+        ways = {ring: way | ways[over] if over in way else way for ring, way in ways.items()}
     return [ring for ring in sorted(ways) if ring in ways[ring]]
 
 

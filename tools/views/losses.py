@@ -2,13 +2,7 @@
 from typing import NamedTuple
 
 from documents import Document, facts_of_run, plural
-
-# The bytes of a cache line, of which a region is a multiple, and of the smallest region.
-LINE, MIN_REGION = 64, 4_096
-# The bytes of a buffer before its data.
-HEADROOM = 128
-# What no pipeline may have more of: buffers of a pool, places of a ring or a transmit list, bytes of a buffer, segments of a record.
-MAX_BUFFERS, MAX_RING, MAX_ROOM, MAX_SEGMENTS = 65_535, 65_536, 4_096, 64
+from limits import HEADROOM, LINE, MAX_BUFFERS, MAX_RING, MAX_ROOM, MAX_SEGMENTS, MIN_REGION
 
 
 class Helps(NamedTuple):

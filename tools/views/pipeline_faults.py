@@ -8,6 +8,7 @@ from typing import Any, NamedTuple
 
 from documents import Document
 from faulty_files import helps, is_capture, line_at, lines_of, meant, place, text_in, trim
+from limits import LINE, MAX_BUFFERS, MAX_CACHE, MAX_FACT, MAX_GROUPS, MAX_POOL, MAX_REGION, MAX_RING, MAX_ROOM, MAX_RULES, MAX_SEGMENTS, MIN_REGION
 from program_text import Line
 
 # A table of TOML.
@@ -36,23 +37,26 @@ def number(least: int, most: int) -> Wanted:
     return Wanted(f"a whole number from {least} to {most}", lambda it: is_whole(it) and least <= it <= most)
 
 
-REGION = Wanted("a multiple of 64 from 4096 to 1073741824", lambda it: is_whole(it) and 4096 <= it <= 1 << 30 and it % 64 == 0)
-POWER = Wanted("a power of two from 2 to 65536", lambda it: is_whole(it) and 2 <= it <= 65_536 and it & (it - 1) == 0)
+REGION = Wanted(
+    f"a multiple of {LINE} from {MIN_REGION} to {MAX_REGION}", lambda it: is_whole(it) and MIN_REGION <= it <= MAX_REGION and it % LINE == 0
+)
+POWER = Wanted(f"a power of two from 2 to {MAX_RING}", lambda it: is_whole(it) and 2 <= it <= MAX_RING and it & (it - 1) == 0)
+FACT = number(0, MAX_FACT)
 TEXT = Wanted("a text in quotes", lambda it: isinstance(it, str))
 TEXTS = Wanted('an array of texts, as ["10.0.0.0/8 1"]', lambda it: isinstance(it, list) and all(isinstance(one, str) for one in it))
 TABLES = Wanted("given by tables in double brackets, as [[port]]", lambda it: isinstance(it, list) and all(is_table(one) for one in it))
 # The greatest number of rules and of groups of a table.
-MOST = {"rules": 65_536, "groups": 256}
+MOST = {"rules": MAX_RULES, "groups": MAX_GROUPS}
 # The keys of each part, and what the value of each must be. Those that may be missing.
 KEYS = {
     "top": {"region": REGION, "pool": TABLES, "table": TABLES, "ring": TABLES, "port": TABLES},
-    "pool": {"count": number(1, 65_535), "cache": number(0, 512), "room": number(0, 4_096)},
+    "pool": {"count": number(1, MAX_BUFFERS), "cache": number(0, MAX_CACHE), "room": number(0, MAX_ROOM)},
     "table": {"rules": number(1, MOST["rules"]), "groups": number(0, MOST["groups"]), "routes": TEXTS},
     "ring": {
-        "count": POWER, "share": number(0, 2), "head": number(0, 65_535), "tail": number(0, 65_535), "first": number(0, 65_535),
-        "last": number(0, 65_535), "segs": number(1, 64), "node": TEXT, "cert": TEXT,
+        "count": POWER, "share": number(0, 2), "head": FACT, "tail": FACT, "first": FACT, "last": FACT, "segs": number(1, MAX_SEGMENTS),
+        "node": TEXT, "cert": TEXT,
     },
-    "port": {"pool": number(0, 7), "segs": number(1, 64), "queue": POWER, "node": TEXT, "cert": TEXT, "in": TEXT, "out": TEXT},
+    "port": {"pool": number(0, MAX_POOL), "segs": number(1, MAX_SEGMENTS), "queue": POWER, "node": TEXT, "cert": TEXT, "in": TEXT, "out": TEXT},
 }
 OPTIONAL = [*(("top", it) for it in ("pool", "table", "ring", "port")), ("ring", "cert"), ("port", "cert")]
 # The causes of an environment that is none, by their numbers; the part that has each, and the key of it.
@@ -196,7 +200,7 @@ class PipelineFile:
             BAD_POOL: "3 x cache is at most 2 x count",
             BAD_RING: "with one segment 'first' and 'last' are equal, and no packet is longer than the room of a buffer",
             BAD_PORT: f"pools are counted from 0 (here {pools}), and a port needs one with a room of at least 129",
-            TOO_MANY: "the counts of all pools together are at most 65535",
+            TOO_MANY: f"the counts of all pools together are at most {MAX_BUFFERS}",
             BAD_NUMBER: f"pools are 1 to 8 (here {pools}), tables 0 to 4 ({tables}), rings 0 to 8 ({rings}), ports 1 to 8 ({ports})",
         }
         return place(self.name, None if part == "top" else self.line_of(part, index, key)) + helps(cures[cause])

@@ -5,7 +5,7 @@ import selectors
 import signal
 import stat
 import subprocess
-from collections.abc import Iterator
+from collections.abc import Callable, Iterable, Iterator
 
 from documents import FAULT, Refused
 from sayings import Sayings
@@ -77,21 +77,32 @@ def is_written(stream: int, text: str) -> bool:
     return True
 
 
-def lines(pipes: dict[int, int]) -> Iterator[tuple[int, str]]:
-    """The lines that come out of pipes, each with the stream that it is for. What is there of standard output comes first."""
-    begun = dict.fromkeys(pipes, b"")
-    with selectors.DefaultSelector() as waiting:
-        for pipe in pipes:
-            waiting.register(pipe, selectors.EVENT_READ)
+def waiting_for(pipes: Iterable[int]) -> selectors.BaseSelector:
+    """What waits for pipes."""
+    waiting = selectors.DefaultSelector()
+    for pipe in pipes:
+        waiting.register(pipe, selectors.EVENT_READ)
+    return waiting
+
+
+def pieces(pipes: dict[int, int]) -> Iterator[tuple[int, bytes]]:
+    """What comes out of pipes, each piece with its pipe, and an empty one at the end of a pipe. What is there of standard output comes first."""
+    with waiting_for(pipes) as waiting:
         while waiting.get_map():
             for pipe in sorted((key.fd for key, _ in waiting.select()), key=lambda it: pipes[it]):
-                data = os.read(pipe, 1 << 16)
-                *whole, begun[pipe] = (begun[pipe] + data).split(b"\n")
-                yield from ((pipes[pipe], it.decode(errors="surrogateescape") + "\n") for it in whole)
-                if not data:
+                if not (data := os.read(pipe, 1 << 16)):
                     waiting.unregister(pipe)
-                    if begun[pipe]:
-                        yield pipes[pipe], begun[pipe].decode(errors="surrogateescape")
+                yield pipe, data
+
+
+def lines(pipes: dict[int, int]) -> Iterator[tuple[int, str]]:
+    """The lines that come out of pipes, each with the stream that it is for."""
+    begun = dict.fromkeys(pipes, b"")
+    for pipe, data in pieces(pipes):
+        *whole, begun[pipe] = (begun[pipe] + data).split(b"\n")
+        yield from ((pipes[pipe], it.decode(errors="surrogateescape") + "\n") for it in whole)
+        if not data and begun[pipe]:
+            yield pipes[pipe], begun[pipe].decode(errors="surrogateescape")
 
 
 def ended(started: subprocess.Popen[bytes]) -> int:
@@ -123,6 +134,12 @@ def say(started: subprocess.Popen[bytes], sayings: Sayings, is_kept: bool) -> in
     return status if all(are_written.values()) else FAULT
 
 
+def handle(numbers: list[int], do: Callable[[int], None]) -> None:
+    """Does this at each of these signals."""
+    for number in numbers:
+        signal.signal(number, lambda number, frame: do(number))
+
+
 def run(program: str, words: list[str]) -> int:
     """Runs the program with these words, and says its lines. Returns the exit status."""
     open_streams()
@@ -131,12 +148,10 @@ def run(program: str, words: list[str]) -> int:
     out, err = (None if is_taken(stream, words) else subprocess.PIPE for stream in (OUT, ERR))
     came: list[int] = []
     handled = [number for number in ENDING if signal.getsignal(number) != signal.SIG_IGN]
-    for number in handled:
-        signal.signal(number, lambda number, frame: came.append(number))
+    handle(handled, came.append)
     # (a program that was compiled just now is open under a number)
     with subprocess.Popen([program, *words], stdout=out, stderr=err, close_fds=False) as started:
-        for number in handled:
-            signal.signal(number, lambda number, frame: started.send_signal(number))
+        handle(handled, started.send_signal)
         for number in came:
             started.send_signal(number)
         try:
