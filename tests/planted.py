@@ -16,8 +16,8 @@ Where nothing says which, all are tried.
   --most N     of what CRATE and --since ask for beyond the part no more than N, beginning with the part after it; the others
                are left for another time, and counted
   --must-fail  those of must-fail/ as well, which `rt ci` tries each time
-  --gate       what the gate tries at this commit, at most 56: all of planted/always; then part N of 96, where N is the number of
-               changes so far by 96, or the day where there is no such history; then edits that are new since the commit 8
+  --gate       what the gate tries at this commit, at most 70: all of planted/always; then part N of 48, where N is the number of
+               changes so far by 48, or the day where there is no such history; then edits that are new since the commit 8
                changes back, then those of functions whose text has changed since
   --early P    while `rt ci` runs, with the lowest priority: those of a crate once the file P names all crates below it, the lowest crates first
   --done D     leaves out those that the file D names, and adds to it each that is refused
@@ -56,7 +56,7 @@ from collections.abc import Iterable
 
 TOP = pathlib.Path(__file__).resolve().parent.parent
 # How many parts take turns in the gate, how many changes back the gate looks, and how many edits it tries at most.
-PARTS, BACK, MOST = 96, 8, 56
+PARTS, BACK, MOST = 48, 8, 70
 # The folders of wrong bodies: those that `rt ci` tries, those that the gate tries each time, and those that have a turn.
 MUST_FAIL, ALWAYS, PLANTED = FOLDERS = ("must-fail", "planted/always", "planted")
 # How many edits share a check at first, and again if something else hid the result of one.
