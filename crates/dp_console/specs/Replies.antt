@@ -24,3 +24,11 @@ EndsWith reply failed failed' out out' err err' status =
     × Appends err err' reply.err.bytes.items)
     ⊎ ((status ≡ 3) × (failed' ≡ true))
     ⊎ ((status ≡ 4) × ((reply.out.has_failed ≡ true) ⊎ (reply.err.has_failed ≡ true)))
+
+-- a reply was written whole with its status; or memory was refused for it, 4
+abbrev pub IsWritten : Reply → Option (List ℕ) → Option (List ℕ) → Option (List ℕ) → Option (List ℕ) → ℕ → Type 0
+IsWritten reply out out' err err' status = EndsWith reply false false out out' err err' status
+
+-- a reply was printed on two writers that no write had failed before
+abbrev pub IsPrinted : Reply → Option (List ℕ) → Option (List ℕ) → Option (List ℕ) → Option (List ℕ) → ℕ → Type 0
+IsPrinted reply out out' err err' status = (failed : Bool) × EndsWith reply false failed out out' err err' status

@@ -1,16 +1,12 @@
 //! The console, which alone writes what commands say.
 
-ghost use Rattle.std.specs.Prelude.{◌≡◌, ◌⊎◌, false, true};
+ghost use Rattle.std.specs.Prelude.{◌≡◌};
 ghost use Rattle.std.specs.Fmt.{with_newline};
-ghost use Rattle.std.specs.Io.KnownBytes.{Appends};
 ghost use Rattle.dp_console.specs.Replies.{EndsWith, Prints};
 
-use crate::reply::{FAULT, MEMORY, Reply};
+use crate::reply::{FAULT, Reply};
 use std::fmt::Display;
 use std::io::Write;
-
-/// What is printed in place of a document for which memory was refused.
-const NO_MEMORY: &str = "{\"fault\":{\"status\":4,\"text\":\"fault: memory\"}}\n";
 
 /// Standard output and standard error. All that a command prints goes through here.
 #[derive(Drop)]
@@ -45,29 +41,17 @@ impl<O: Write, E: Write> Console<O, E> {
         written
     }
 
-    /// Writes both texts, and returns this status; or 3 if a text could not be written, now or before.
-    fn write(&mut self, out: &[u8], err: &[u8], status: u8) -> u8
-        ensures { ((result ≡ status) × (self.old.has_failed ≡ false) × (self.new.has_failed ≡ false)
-            × Appends (O.contents self.old.out) (O.contents self.new.out) out.now × Appends (E.contents self.old.err) (E.contents self.new.err) err.now)
-            ⊎ ((result ≡ FAULT) × (self.new.has_failed ≡ true)) }
-    {
-        let printed = self.out.write_all(out).is_ok();
-        let reported = self.err.write_all(err).is_ok();
-        self.has_failed |= !(printed && reported);
-        if self.has_failed { FAULT } else { status }
-    }
-
     /// Prints a reply, and returns the exit status: the reply's; 4 if memory was refused for it, which is reported; or 3 if a text could not be
     /// written, now or before.
     pub fn end(&mut self, reply: &Reply) -> u8
         ensures { EndsWith reply.now self.old.has_failed self.new.has_failed (O.contents self.old.out) (O.contents self.new.out)
             (E.contents self.old.err) (E.contents self.new.err) result }
     {
-        if !reply.is_whole() {
-            let document = if reply.is_json { NO_MEMORY } else { "" };
-            return self.write(document.as_bytes(), b"fault: memory\n", MEMORY);
+        let status = reply.write(&mut self.out, &mut self.err);
+        self.has_failed |= status.is_none();
+        match status {
+            Some(status) if !self.has_failed => status,
+            _ => FAULT,
         }
-        let (out, err) = (reply.out.bytes.as_slice(), reply.err.bytes.as_slice());
-        self.write(out, err, reply.status)
     }
 }

@@ -1,7 +1,7 @@
 //! What a command says on both streams, and its exit status.
 
-ghost use Rattle.std.specs.Prelude.{◌≡◌, ◌⊎◌, [], false, true, IsTrue, Some};
-ghost use Rattle.dp_console.specs.Replies.{IsWhole, Says};
+ghost use Rattle.std.specs.Prelude.{◌≡◌, ◌⊎◌, [], false, true, IfSome, IsTrue, Some};
+ghost use Rattle.dp_console.specs.Replies.{IsPrinted, IsWhole, IsWritten, Says};
 
 use std::alloc::Global;
 use std::fmt::Display;
@@ -21,6 +21,9 @@ pub const FAULT: u8 = 3;
 
 /// The exit status for lack of memory.
 pub const MEMORY: u8 = 4;
+
+/// What is printed in place of a document for which memory was refused.
+const NO_MEMORY: &str = "{\"fault\":{\"status\":4,\"text\":\"fault: memory\"}}\n";
 
 /// A text that grows. Once memory is refused for it, it is no longer whole.
 #[derive(Drop)]
@@ -106,5 +109,34 @@ impl Reply {
         ensures cut { result ≡ false → (self.now.out.has_failed ≡ true) ⊎ (self.now.err.has_failed ≡ true) }
     {
         !(self.out.has_failed || self.err.has_failed)
+    }
+
+    /// Prints it on two writers. Returns its status; 4 if memory was refused for it, which is printed in its place; or `None` if a text could not be
+    /// written.
+    pub(crate) fn write<O: Write, E: Write>(&self, out: &mut O, err: &mut E) -> Option<u8>
+        ensures { IfSome result (IsWritten self.now (O.contents out.old) (O.contents out.new) (E.contents err.old) (E.contents err.new)) }
+    {
+        let (printed, reported, status) = if self.is_whole() {
+            let printed = out.write_all(self.out.bytes.as_slice()).is_ok();
+            let reported = err.write_all(self.err.bytes.as_slice()).is_ok();
+            (printed, reported, self.status)
+        } else {
+            let document = if self.is_json { NO_MEMORY } else { "" };
+            let printed = out.write_all(document.as_bytes()).is_ok();
+            (printed, err.write_all(b"fault: memory\n").is_ok(), MEMORY)
+        };
+        if printed && reported {
+            Some(status)
+        } else {
+            None
+        }
+    }
+
+    /// Prints it on two writers, and returns the exit status: its own; 4 if memory was refused for it, which is printed in its place; or 3 if a text
+    /// could not be written.
+    pub fn print<O: Write, E: Write>(&self, out: &mut O, err: &mut E) -> u8
+        ensures { IsPrinted self.now (O.contents out.old) (O.contents out.new) (E.contents err.old) (E.contents err.new) result }
+    {
+        self.write(out, err).unwrap_or(FAULT)
     }
 }

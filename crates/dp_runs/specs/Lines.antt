@@ -1,9 +1,9 @@
 -- A run on the command line.
-use Rattle.std.specs.Prelude.{◌≡◌, ℕ, List, Bool, false, Option}
+use Rattle.std.specs.Prelude.{◌≡◌, ℕ, List, false, Option}
 use Rattle.dp_runs.specs.declared.closing.Flushed.{Flushed}
 use Rattle.dp_runs.specs.Runs.{IsRun}
 use Rattle.dp_console.specs.declared.reply.Reply.{Reply}
-use Rattle.dp_console.specs.Replies.{EndsWith}
+use Rattle.dp_console.specs.Replies.{IsPrinted}
 use Rattle.dp_engine.specs.declared.watch.Silent.{Silent}
 use Rattle.dp_load.specs.Pipelines.{Plan}
 use Rattle.dp_pipe.specs.Devices.{Kind}
@@ -22,5 +22,4 @@ pub record IsRunLine {I O : Type 0} (p : Plan) (pattern : List ℕ) (feeds : Kin
   pub reply : Reply
   pub said : IsReplied false false flushed.answer reply
   pub status_is : reply.status ≡ status_of (answer_of flushed.answer)
-  pub failed : Bool
-  pub ended : EndsWith reply false failed out out' err err' status
+  pub printed : IsPrinted reply out out' err err' status

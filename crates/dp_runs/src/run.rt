@@ -1,8 +1,7 @@
 //! Runs a pipeline from captures to captures.
 
-ghost use Rattle.std.specs.Prelude.{◌≡◌, Bool, false, length};
+ghost use Rattle.std.specs.Prelude.{◌≡◌, length};
 ghost use Rattle.dp_pipe.specs.Devices.{kind};
-ghost use Rattle.dp_console.specs.Replies.{EndsWith};
 ghost use Rattle.dp_engine.specs.Engines.{IsAscending};
 ghost use Rattle.dp_runs.specs.Lines.{IsRunLine};
 ghost use Rattle.dp_runs.specs.Watching.{IsRunUnder};
@@ -10,7 +9,6 @@ ghost use Rattle.dp_runs.specs.Watching.{IsRunUnder};
 use crate::closing::{Flushed, problem_of, run_captures};
 use crate::reply::{Printing, reply_of};
 use dp_captures::{CaptureNames, CaptureProblem, Inlet, Outlet};
-use dp_console::{FAULT, MEMORY, Reply};
 use dp_counts::{Counting, Losses, Refusals, Wanted};
 use dp_engine::{CompiledPrograms, Nothing, Silent};
 use dp_load::Pipeline;
@@ -108,27 +106,6 @@ pub fn problem_of_run<'a, I: Inlet>(
     problem_of(names, ins, fault.cause, ran.flushed.failure)
 }
 
-/// Prints a reply on two writers, as a console does, and returns the exit status: the reply's; 4 if memory was refused for it, which is reported; or 3
-/// if a text could not be written.
-fn print_reply<P: Write, E: Write>(reply: &Reply, out: &mut P, err: &mut E) -> u8
-    ensures { (failed : Bool) × EndsWith reply.now false failed (P.contents out.old) (P.contents out.new) (E.contents err.old) (E.contents err.new)
-        result }
-{
-    if !reply.is_whole() {
-        return match err.write_all(b"fault: memory\n") {
-            Ok(()) => MEMORY,
-            Err(_) => FAULT,
-        };
-    }
-    let printed = out.write_all(reply.out.bytes.as_slice()).is_ok();
-    let reported = err.write_all(reply.err.bytes.as_slice()).is_ok();
-    if printed && reported {
-        reply.status
-    } else {
-        FAULT
-    }
-}
-
 /// Runs a pipeline from captures to captures, one input and one output for each port, with these allocation calls refused. Prints its report, even of a
 /// run that stopped, and why it stopped, if it did. Returns the exit status: 0 if all was forwarded and written out, 4 for lack of memory, and else 3.
 pub fn run_line<I: Inlet, O: Outlet, P: Write, E: Write>(
@@ -162,5 +139,5 @@ pub fn run_line<I: Inlet, O: Outlet, P: Write, E: Write>(
         notes: None,
     };
     let reply = reply_of(alloc, &ran, &printing);
-    print_reply(&reply, out, err)
+    reply.print(out, err)
 }

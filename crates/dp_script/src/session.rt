@@ -8,6 +8,7 @@ use dp_console::{Document, FAULT, Item, Reply, Text};
 use dp_heap::{Heap, HeapError, State};
 use dp_region::{Block, CACHE_LINE, MAX_REGION, MIN_REGION, Region};
 use std::alloc::Global;
+use std::io::Write;
 
 /// A block that a script holds, by the number of its allocation.
 struct Held {
@@ -177,15 +178,31 @@ fn run_script(alloc: Global, script: &[u8], out: &mut Text) -> Option<usize> {
     fault
 }
 
-/// Runs a heap script, the text of this file. The status is 0; or 3 if a line is at fault, which is reported, after what the lines before it print. If
-/// memory is refused, the reply is not whole.
-pub fn mem_reply(alloc: Global, file: &str, script: &[u8]) -> Reply {
+/// What a heap script says, with its status; and the number of the line at fault, if one is.
+fn reply_of(alloc: Global, script: &[u8]) -> (Reply, Option<usize>) {
     let mut reply = Reply::new(alloc);
-    if let Some(number) = run_script(alloc, script, &mut reply.out) {
+    let fault = run_script(alloc, script, &mut reply.out);
+    if let Some(number) = fault {
         reply.status = FAULT;
         reply
             .err
             .say(format_args!("fault: line {number} bad command\n"));
+    }
+    (reply, fault)
+}
+
+/// Runs a heap script, and prints on two writers what it says. Returns the exit status: 0; 3 if a line is at fault, which is reported after what the
+/// lines before it print, or if a text could not be written; 4 for lack of memory.
+pub fn mem_line<P: Write, E: Write>(alloc: Global, script: &[u8], out: &mut P, err: &mut E) -> u8 {
+    let (reply, _fault) = reply_of(alloc, script);
+    reply.print(out, err)
+}
+
+/// Runs a heap script, the text of this file. The status is 0; or 3 if a line is at fault, which is reported, after what the lines before it print; then
+/// follow the facts of that line. If memory is refused, the reply is not whole.
+pub fn mem_reply(alloc: Global, file: &str, script: &[u8]) -> Reply {
+    let (mut reply, fault) = reply_of(alloc, script);
+    if let Some(number) = fault {
         let mut to = Document::new(alloc);
         to.begin_object("");
         to.item("view", Item::Text("script"));

@@ -1,5 +1,5 @@
 -- The findings on nodes, one after another.
-use Rattle.std.proofs.Common.{◌≡◌, ℕ, suc, ◌+◌, List, Option, sym, subst, add-one}
+use Rattle.std.proofs.Common.{ℕ, ◌+◌, List, Option, sym, subst, add-one}
 use Rattle.dp_sources.specs.declared.subject.Subject.{Subject}
 use Rattle.dp_sources.specs.Subjects.{entry_at}
 use Rattle.dp_load.specs.Files.{FileMap}

@@ -1,9 +1,12 @@
 -- Findings are said one after another, and nodes are listed so.
-use Rattle.std.proofs.Common.{◌≡◌, ℕ, suc, ◌+◌, List, [], ◌∷◌, ◌++◌, take, Option, Some, None}
-use Rattle.std.proofs.Common.{sym, ◌∙◌, ap, append_assoc, append-nil, add-one, map, slice_get}
+use Rattle.std.proofs.Common.{◌≡◌, ℕ, ◌+◌, List, [], ◌∷◌, ◌++◌, take, Option, Some, None}
+use Rattle.std.proofs.Common.{sym, ◌∙◌, ap, append_assoc, append-nil, add-one, map, slice_get, subst}
+use Rattle.std.proofs.KnownBytes.{Appends-trans}
+use Rattle.std.specs.Io.KnownBytes.{Appends}
+use Rattle.std.specs.List.{flat_map}
 use Rattle.std.specs.Prelude.{IfSome}
 use Rattle.dp_model.specs.Laws.Lists.{take_more}
-use Rattle.std.proofs.lemmas.List.{map-append}
+use Rattle.std.proofs.lemmas.List.{flat_map_more, map-append}
 use Rattle.dp_console.specs.declared.reply.Text.{Text}
 use Rattle.dp_console.specs.Replies.{Says}
 use Rattle.dp_verdict.specs.Reports.{join}
@@ -29,3 +32,10 @@ map_next {A} {B} f xs i x old new y here before more is =
     more ∙ ap (λ (l : List B). l ++ y ∷ []) before ∙ ap (λ (z : B). map f (take i xs) ++ z ∷ []) is
     ∙ sym (map-append f (take i xs) (x ∷ [])) ∙ ap (λ (l : List A). map f l) (sym (take_more xs i x here))
     ∙ ap (λ (n : ℕ). map f (take n xs)) (sym (add-one i))
+
+-- one line more is written
+pub line_next : {A : Type 0} (f : A → List ℕ) (xs : List A) (i : ℕ) (x : A) (a b d : Option (List ℕ)) → slice_get xs i ≡ Some x
+    → Appends a b (flat_map f (take i xs)) → Appends b d (f x) → Appends a d (flat_map f (take (i + 1) xs))
+line_next {A} f xs i x a b d here before now =
+    subst (λ (n : ℕ). Appends a d (flat_map f (take n xs))) (sym (add-one i)) (subst (λ (l : List A). Appends a d (flat_map f l)) (sym (take_more xs i x here))
+    (subst (Appends a d) (flat_map_more f [] (take i xs) x) (Appends-trans a b d _ _ before now)))

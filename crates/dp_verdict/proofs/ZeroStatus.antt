@@ -1,5 +1,5 @@
 -- A check ends with status 0 only if the pipeline was loaded.
-use Rattle.std.proofs.Common.{◌≡◌, ℕ, List, [], ◌∷◌, Option, Some, None, Result, Ok, Err, Bool, true, false, sym, ◌∙◌, ap, subst, inl, inr, arith}
+use Rattle.std.proofs.Common.{◌≡◌, List, [], ◌∷◌, Option, Some, None, Result, Ok, Err, Bool, sym, ◌∙◌, ap, subst, inl, inr, arith}
 use Rattle.std.specs.Prelude.{IfErr, MatchOption}
 use Rattle.dp_load.specs.declared.error.PipeError.{PipeError}
 use Rattle.dp_load.specs.Pipelines.{Plan}

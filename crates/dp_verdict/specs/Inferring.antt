@@ -1,5 +1,5 @@
 -- Certificates that are inferred, and what `dpv infer` and `dpv infer-one` say.
-use Rattle.std.specs.Prelude.{◌≡◌, ℕ, ◌+◌, nat_lt, if◌then◌else◌, ◌⊎◌, List, length, slice_get, Option, None, false}
+use Rattle.std.specs.Prelude.{◌≡◌, ◌+◌, nat_lt, if◌then◌else◌, ◌⊎◌, List, length, slice_get, Option, None, false}
 use Rattle.dp_model.specs.declared.env.Entry.{Entry}
 use Rattle.dp_model.specs.declared.env.Entry.TheVariants.{Port, Ring}
 use Rattle.dp_model.specs.declared.instr.Instr.{Instr}

@@ -3,7 +3,7 @@ use Rattle.std.specs.Prelude.{◌≡◌, ℕ, zero, suc, ◌⊎◌, List, [], �
 use Rattle.dp_model.specs.declared.env.Entry.{Entry}
 use Rattle.dp_model.specs.declared.instr.Instr.{Instr}
 use Rattle.dp_model.specs.Environments.{Environment}
-use Rattle.dp_model.specs.Rules.{Question, IsAccepted, number_of}
+use Rattle.dp_model.specs.Rules.{IsAccepted, number_of}
 use Rattle.dp_cert.specs.Spelling.{Certificate, version_for}
 use Rattle.dp_check.specs.Faults.{question}
 use Rattle.dp_check.specs.Diagnoses.{IsDiagnosis, rule_of}

@@ -124,6 +124,24 @@ fn accepted_in<'a>(alloc: Global, pipeline: &Pipeline) -> Report<'a>
     Report { nodes, fault }
 }
 
+/// The first program that is refused or has no certificate; or a fault.
+pub(crate) fn refused<'a>(alloc: Global, error: PipeError) -> Report<'a>
+    ensures { IsRefused error result }
+{
+    let (node, given, label, rule) = match error {
+        PipeError::Refused { node, label, rule } => (node, true, label, rule),
+        PipeError::NotInferred { node, label, rule } => (node, false, label, rule),
+        _ => return Report::of_fault(Fault::of_pipeline(error)),
+    };
+    let at = RefusedAt { given, label, rule };
+    let (mut nodes, fault) = (Vec::new(alloc), None);
+    if nodes.push(Finding::plain(node, Some(at))).is_err() {
+        return Report::of_fault(Fault::Memory);
+    }
+    let nodes = Some(nodes);
+    Report { nodes, fault }
+}
+
 /// A subject, and the files that were read for it.
 #[derive(Clone, Copy)]
 struct Case<'a> {
@@ -202,31 +220,13 @@ impl<'a> Case<'a> {
         self.said(&report, error, is_json)
     }
 
-    /// The first program that is refused or has no certificate; or a fault.
-    fn refused(self, error: PipeError) -> Report<'a>
-        ensures { IsRefused error result }
-    {
-        let (node, given, label, rule) = match error {
-            PipeError::Refused { node, label, rule } => (node, true, label, rule),
-            PipeError::NotInferred { node, label, rule } => (node, false, label, rule),
-            _ => return Report::of_fault(Fault::of_pipeline(error)),
-        };
-        let at = RefusedAt { given, label, rule };
-        let (mut nodes, fault) = (Vec::new(self.alloc), None);
-        if nodes.push(Finding::plain(node, Some(at))).is_err() {
-            return Report::of_fault(Fault::Memory);
-        }
-        let nodes = Some(nodes);
-        Report { nodes, fault }
-    }
-
     /// The verdicts by which a pipeline was loaded or not: all nodes as accepted; or the first that is refused or has no certificate; or a fault.
     fn check(self, loaded: &Result<Pipeline, PipeError>) -> Report<'a>
         ensures { IsChecked loaded.now result }
     {
         match *loaded {
             Ok(ref pipeline) => accepted_in(self.alloc, pipeline),
-            Err(error) => self.refused(error),
+            Err(error) => refused(self.alloc, error),
         }
     }
 
@@ -292,7 +292,7 @@ pub fn unloaded(
         subject,
         sources,
     };
-    case.said(&case.refused(error), Some(error), is_json)
+    case.said(&refused(alloc, error), Some(error), is_json)
 }
 
 /// `dpv check` of a pipeline's text and the files that it names: what it says, and the pipeline or why there is none.

@@ -9,7 +9,9 @@ use dp_load::{How, Listed, NamedBytes, Pipeline, SingleFiles, load, load_single}
 use dp_model::Entry;
 use dp_pcap::{Buffered, OfBufReader, OfBufWriter, OfRead, OfWrite};
 use dp_runs::run_line;
+use dp_script::mem_line;
 use dp_sources::{ONE_REGION, one_env};
+use dp_verdict::{check_line, infer_line, load_line};
 use std::alloc::{AllocError, Global};
 use std::io::BufReader;
 use std::test::Fail;
@@ -158,6 +160,127 @@ fn a_run_prints_its_report(rt: HostRuntime) -> Result<(), Fail> {
     let alloc = rt.alloc();
     let (pipeline, input, output) = (loaded(alloc)?, input(alloc)?, output(alloc)?);
     assert!(&rt; prints(alloc, pipeline, input, output));
+    Ok(())
+}
+
+/// A program that frees each packet.
+const FREES: Listed<'static> = Listed {
+    files: &[NamedBytes {
+        name: "back",
+        bytes: b"free p0\nexit\n",
+    }],
+};
+
+/// A program that keeps each packet, so no certificate is right.
+const KEEPS: Listed<'static> = Listed {
+    files: &[NamedBytes {
+        name: "back",
+        bytes: b"exit\n",
+    }],
+};
+
+const NO_FILES: Listed<'static> = Listed { files: &[] };
+
+/// The certificate of [`FREES`] on the port.
+const CERT: &str = "dpv-cert 1\n\
+    010102008000000000000001000000000000000000000000000000000000000000000000000000000000000000000000000000\
+    000000000000000000000000000000000000000000000000000000000000000000000000000000000000000000000000000000\
+    000000000000000000000000000000000000000000000000000000000000000000000000000000000000000000000000000000\n\
+    010000000000000000000000000000000000000000000000000000000000000000000000000000000000000000000000000000\
+    000000000000000000000000000000000000000000000000000000000000000000000000000000000000000000000000000000\
+    000000000000000000000000000000000000000000000000000000000000000000000000000000000000000000000000000000\n";
+
+/// Files for the pipeline, and with which status and texts it is not loaded.
+static UNLOADED: &[(Listed<'static>, u8, &str, &str)] = &[
+    (KEEPS, 1, "port 0 not inferred at 0 by J10\n", ""),
+    (NO_FILES, 3, "", "fault: pipeline 5 File port 0\n"),
+];
+
+/// Heap scripts, with what they print and their statuses.
+static SCRIPTS: &[(&[u8], u8, &str, &str)] = &[
+    (
+        b"region 4096\nmalloc 100 0\n",
+        0,
+        "1 data 3968 element 3904 + 192\n",
+        "",
+    ),
+    (
+        b"region 4096\nmalloc 100\n",
+        3,
+        "",
+        "fault: line 2 bad command\n",
+    ),
+];
+
+// Whether these files give no pipeline, with this status and these texts.
+fn is_unloaded(alloc: Global, given: Listed<'_>, status: u8, out: &str, err: &str) -> bool {
+    let (mut files, mut printed, mut reported) = (given, Vec::new(alloc), Vec::new(alloc));
+    let (to, aside) = (&mut printed, &mut reported);
+    let answer = load_line(alloc, TEXT, &mut files, How::Given, to, aside);
+    matches!(answer, Err(it) if it == status)
+        && printed.as_slice() == out.as_bytes()
+        && reported.as_slice() == err.as_bytes()
+}
+
+// Whether a script ends with this status and these texts.
+fn is_said(alloc: Global, script: &[u8], status: u8, out: &str, err: &str) -> bool {
+    let (mut printed, mut reported) = (Vec::new(alloc), Vec::new(alloc));
+    mem_line(alloc, script, &mut printed, &mut reported) == status
+        && printed.as_slice() == out.as_bytes()
+        && reported.as_slice() == err.as_bytes()
+}
+
+// The first row of files that does not hold.
+fn first_loaded(alloc: Global) -> Option<usize> {
+    for (k, (files, status, out, err)) in UNLOADED.iter().enumerate() {
+        if !is_unloaded(alloc, *files, *status, out, err) {
+            return Some(k);
+        }
+    }
+    None
+}
+
+// The first script that does not hold.
+fn first_unsaid(alloc: Global) -> Option<usize> {
+    for (k, (script, status, out, err)) in SCRIPTS.iter().enumerate() {
+        if !is_said(alloc, script, *status, out, err) {
+            return Some(k);
+        }
+    }
+    None
+}
+
+// Whether the nodes of a pipeline are printed as accepted, the certificate of its port is printed, and that it has no second ring.
+fn are_said(alloc: Global, pipeline: &Pipeline) -> bool {
+    let (mut out, mut err) = (Vec::new(alloc), Vec::new(alloc));
+    check_line(pipeline, &mut out, &mut err) == 0
+        && out.as_slice() == "port 0 accepted\nring 0 accepted\n".as_bytes()
+        && infer_line(
+            alloc,
+            pipeline,
+            Entry::Port(0),
+            &mut err,
+            &mut Vec::new(alloc),
+        ) == 0
+        && err.as_slice() == CERT.as_bytes()
+        && infer_line(
+            alloc,
+            pipeline,
+            Entry::Ring(1),
+            &mut Vec::new(alloc),
+            &mut out,
+        ) == 2
+        && out.ends_with(b"accepted\nerror: the pipeline has no ring 1\n")
+}
+
+#[test]
+fn commands_over_two_writers(rt: HostRuntime) -> Result<(), Fail> {
+    let (alloc, mut files) = (rt.alloc(), FREES);
+    assert_eq!(&rt; (first_loaded(alloc), first_unsaid(alloc)), (None, None));
+    let (mut out, mut err) = (Vec::new(alloc), Vec::new(alloc));
+    let loaded = load_line(alloc, TEXT, &mut files, How::Inferred, &mut out, &mut err);
+    let is_right = matches!(&loaded, Ok(pipeline) if are_said(alloc, pipeline));
+    assert!(&rt; is_right && out.is_empty() && err.is_empty());
     Ok(())
 }
 

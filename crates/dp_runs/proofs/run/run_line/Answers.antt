@@ -1,4 +1,4 @@
--- `run_line`: the run is that of `run_captures`, what is said of it that of `reply_of`, and `print_reply` ends with it.
+-- `run_line`: the run is that of `run_captures`, what is said of it that of `reply_of`, and `Reply::print` ends with it.
 use Rattle.dp_runs.proofs.run.run_line.Goals as goal
 
 pub returns : goal.returns
@@ -10,6 +10,5 @@ returns g c = record {
   reply = c.reply_of-reply.result;
   said = c.reply_of-reply.ensures.parts;
   status_is = c.reply_of-reply.ensures.status;
-  failed = c.print_reply.ensures.0;
-  ended = c.print_reply.ensures.1;
+  printed = c.print.ensures;
 }
