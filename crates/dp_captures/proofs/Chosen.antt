@@ -3,10 +3,7 @@ use Rattle.std.proofs.Common.{◌≡◌, ℕ, zero, suc, ◌+◌, List, [], ◌�
 use Rattle.std.specs.Prelude.{slice_get}
 use Rattle.std.proofs.lemmas.List.{map-append}
 use Rattle.std.proofs.lemmas.Option.{same_Some}
-use Rattle.dp_captures.specs.declared.words.Place.{Place}
-use Rattle.dp_captures.specs.declared.words.Replaced.{Replaced}
-use Rattle.dp_captures.specs.Names.{captures_from}
-use Rattle.dp_captures.specs.Words.{capture_at}
+use Rattle.dp_captures.specs.{declared.words.Place.Place, declared.words.Replaced.Replaced, Names.captures_from, Words.capture_at}
 
 further : (given : List Replaced) (k : ℕ) (names : List (List ℕ)) (i port : ℕ) (name : List ℕ) → port ≡ i + k → slice_get names i ≡ Some name
     → captures_from given k (take (suc i) names) ≡ captures_from given k (take i names) ++ capture_at given port name ∷ []

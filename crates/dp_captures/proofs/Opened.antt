@@ -1,24 +1,15 @@
 -- One capture more that is open.
 use Rattle.std.proofs.Common.{◌≡◌, ℕ, zero, suc, Ok, Err, Result, ◌+◌, ◌<◌, ◌≤◌, List, [], ◌∷◌, ◌++◌, Some}
 use Rattle.std.proofs.Common.{length, map, take, refl, ap, sym, ◌∙◌, subst, add-one, append_assoc, arith}
-use Rattle.dp_pcap.specs.declared.of_buf_reader.OfBufReader.{OfBufReader}
-use Rattle.dp_pcap.specs.declared.of_buf_writer.OfBufWriter.{OfBufWriter}
+use Rattle.dp_pcap.specs.{declared.of_buf_reader.OfBufReader.OfBufReader, declared.of_buf_writer.OfBufWriter.OfBufWriter}
 use Rattle.std.proofs.Math.Seq.{take-length}
-use Rattle.std.specs.Prelude.{IfErr, OnOk, option_map, slice_get, slice_index_or}
-use Rattle.dp_captures.specs.declared.faults.CaptureFault.{CaptureFault}
+use Rattle.std.specs.Prelude.{OnOk, option_map, slice_get, slice_index_or}
+use Rattle.dp_captures.specs.{declared.faults.CaptureFault.CaptureFault, declared.file_id.ReadFile.ReadFile, declared.guard.Kept.Kept}
 use Rattle.dp_captures.specs.declared.faults.CaptureFault.TheVariants as fault
-use Rattle.dp_captures.specs.declared.file_id.ReadFile.{ReadFile}
-use Rattle.dp_captures.specs.declared.guard.Kept.{Kept}
-use Rattle.dp_captures.specs.declared.guarded.Guarded.{Guarded}
-use Rattle.dp_captures.specs.declared.input_file.InputFile.{InputFile}
-use Rattle.dp_captures.specs.declared.names.CaptureNames.{CaptureNames}
-use Rattle.dp_captures.specs.declared.output_file.OutputFile.{OutputFile}
-use Rattle.dp_captures.specs.declared.watched.Watched.{Watched}
-use Rattle.dp_captures.specs.declared.words.Place.{Place}
-use Rattle.dp_captures.specs.Files.{AreOpened}
-use Rattle.dp_captures.specs.Guarding.{AreApart, AreFilesOf, AreGuarded, output_target, targets}
-use Rattle.dp_captures.specs.Names.{input_capture, output_capture}
-use Rattle.dp_captures.specs.Opening.{IsInput, IsOf, IsOutput}
+use Rattle.dp_captures.specs.{declared.guarded.Guarded.Guarded, declared.input_file.InputFile.InputFile, declared.names.CaptureNames.CaptureNames}
+use Rattle.dp_captures.specs.{declared.output_file.OutputFile.OutputFile, declared.watched.Watched.Watched, declared.words.Place.Place}
+use Rattle.dp_captures.specs.{Files.AreOpened, Guarding.AreApart, Guarding.AreFilesOf, Guarding.AreGuarded, Guarding.output_target, Guarding.targets}
+use Rattle.dp_captures.specs.{Names.input_capture, Names.output_capture, Opening.IsInput, Opening.IsOf, Opening.IsOutput}
 
 -- one element more of a list
 pub index_more : {B C : Type 0} (g : B → C) (bs : List B) (k : ℕ) (d : B) → k < length bs
@@ -106,10 +97,6 @@ none_opened {D} IsOpened capture_of names ds none =
 pub on_ok : {A E : Type 0} (r : Result A E) (P : Type 0) → P → OnOk r P
 on_ok (Ok a) P p = p
 on_ok (Err e) P p = tt
-
-pub if_err : {A E : Type 0} (r : Result A E) (P Q : E → Type 0) → ((e : E) → P e → Q e) → IfErr r P → IfErr r Q
-if_err (Ok a) P Q f h = tt
-if_err (Err e) P Q f h = f e h
 
 -- the outputs are apart, as they are open
 pub guarded : {A F : Type 0} (reads : List ReadFile) (inputs inputs' : List (OfBufReader (Watched (InputFile F))))

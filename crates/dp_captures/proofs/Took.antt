@@ -2,8 +2,7 @@
 use Rattle.std.proofs.Common.{◌≡◌, ℕ, zero, suc, ◌+◌, ◌≤◌, ◌<◌, ◌^◌, List, [], ◌∷◌, ◌++◌, length, length-append, Some, subst, sym, ap, arith, ◌∙◌}
 use Rattle.std.proofs.Math.Logic.{∥∥₁_map}
 use Rattle.std.proofs.lemmas.List.{flat_map_more}
-use Rattle.dp_pcap.specs.declared.byte_order.Order.{Order}
-use Rattle.dp_pcap.specs.Counting.{Counted, ArePieces, IsAfter, records_in}
+use Rattle.dp_pcap.specs.{declared.byte_order.Order.Order, Counting.Counted, Counting.ArePieces, Counting.IsAfter, Counting.records_in}
 use Rattle.dp_captures.specs.Outlets.{joined, Counts, HasWhole}
 
 -- there are no more whole pieces than bytes

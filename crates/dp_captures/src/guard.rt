@@ -1,6 +1,6 @@
 //! Keeps the outputs of a run apart from its other files.
 
-ghost use Rattle.std.specs.Prelude.{◌≡◌, ◌≤◌, ◌++◌, ◌∷◌, [], None, find, length, map, option_map, IfErr, IfOk, OnOk};
+ghost use Rattle.std.specs.Prelude.{◌≡◌, ◌≤◌, ◌++◌, ◌∷◌, [], None, find, length, map, IfErr, IfOk, OnOk};
 ghost use Rattle.dp_captures.specs.Guarding as spec;
 ghost use Rattle.dp_captures.specs.Guarding.{input_target, output_target, read_target, targets};
 ghost use Rattle.dp_captures.specs.Names.{output_capture};
@@ -62,13 +62,6 @@ fn is_same_target(left: Target<'_>, right: Target<'_>) -> bool
     }
 }
 
-/// The first of these files that is this one.
-fn first_same<'b, 'a>(target: Target<'_>, kept: &'b [Kept<'a>]) -> Option<&'b Kept<'a>>
-    ensures { option_map (λ one. one.now) result ≡ find (λ one. spec.is_same_target target.entry one.target) kept.now }
-{
-    kept.iter().find(|one| is_same_target(target, one.target))
-}
-
 /// Adds a file that no output may be.
 fn keep<'a>(
     kept: &mut Vec<Kept<'a>>,
@@ -112,7 +105,12 @@ fn keep_inputs<'a, F: Read>(
 
 /// Whether an output is standard output.
 fn take_stdout(names: &[CaptureNames]) -> bool {
-    names.iter().any(|port| port.output_place == Place::Stream)
+    for port in names {
+        if matches!(port.output_place, Place::Stream) {
+            return true;
+        }
+    }
+    false
 }
 
 /// Where texts go: the first of these names that means a plain file.
@@ -152,13 +150,15 @@ fn add_output<'a>(
     target: Target<'a>,
     port: &'a CaptureNames,
 ) -> Result<(), CaptureFault<'a>>
-    ensures apart { OnOk result (find (λ one. spec.is_same_target target.entry one.target) kept.old.items ≡ None) }
+    ensures apart { OnOk result (find (spec.is_same_target target.entry) (targets kept.old.items) ≡ None) }
     ensures added { OnOk result (targets kept.new.items ≡ targets kept.old.items ++ target.entry ∷ []) }
     ensures named { IfErr result (IsOf (output_capture port.now).1) }
 {
     let name = port.output.as_str();
-    if let Some(one) = first_same(target, kept.as_slice()) {
-        return Err(fault_at(name, one.name, one.why));
+    for one in kept.as_slice() {
+        if is_same_target(target, one.target) {
+            return Err(fault_at(name, one.name, one.why));
+        }
     }
     if keep(kept, target, Some(name), CaptureReason::IsOutput).is_err() {
         return Err(CaptureFault::Memory);
@@ -168,12 +168,9 @@ fn add_output<'a>(
 
 /// The file that an output would be made as, if no file has its name.
 fn new_file<'a, R: Files>(rt: &R, name: &'a str) -> Result<Target<'a>, AllocError> {
-    let (parent, file) = match name.rsplit_once('/') {
-        Some(("", file)) => ("/", file),
-        Some(parts) => parts,
-        None => (".", name),
-    };
-    match fs::metadata(rt, parent) {
+    let (parent, file) = name.rsplit_once('/').unwrap_or((".", name));
+    let folder = if parent.is_empty() { "/" } else { parent };
+    match fs::metadata(rt, folder) {
         Ok(metadata) if metadata.is_dir() => Ok(Target::New(FileId::of(&metadata), file)),
         Err(error) if error.kind() == ErrorKind::OutOfMemory => Err(AllocError),
         _ => Ok(Target::Other),

@@ -47,7 +47,7 @@ pub struct Seen {
     /// The error with which its last read failed.
     pub failure: Option<Error>,
     /// The bytes with which the first read begins; 255 where it has fewer.
-    pub front: [u8; 6],
+    pub front: [u64; 6],
     /// The field of the link type in its header, if the first read has the whole header of a capture.
     pub link: Option<u32>,
 }
@@ -62,10 +62,12 @@ impl Seen {
 }
 
 /// The first six of these bytes; 255 for those that are not there.
-fn front_of(bytes: &[u8]) -> [u8; 6] {
+fn front_of(bytes: &[u8]) -> [u64; 6] {
     let mut front = [255; 6];
-    for (kept, byte) in front.iter_mut().zip(bytes) {
-        *kept = *byte;
+    for k in 0..6 {
+        if let Some(byte) = bytes.get(k) {
+            front[k] = u64::from(*byte);
+        }
     }
     front
 }

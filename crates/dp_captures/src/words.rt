@@ -1,6 +1,6 @@
 //! Captures that words give ports in place of those that a pipeline names.
 
-ghost use Rattle.std.specs.Prelude.{◌≡◌, ◌≢◌, ◌==◌, ◌∷◌, [], Some, None, find, map, nat_le, option_map, IfErr, IfOk, OnOk};
+ghost use Rattle.std.specs.Prelude.{◌≡◌, ◌≢◌, ◌==◌, ◌∷◌, [], Some, None, find, map, nat_le, option_map, IfErr, IfOk};
 ghost use Rattle.std.specs.List.{list_any};
 ghost use Rattle.std.specs.Result.{result_ok};
 ghost use Rattle.dp_captures.specs.Words as spec;
@@ -10,7 +10,7 @@ use std::alloc::{AllocError, Global};
 use std::fmt;
 
 /// Where a capture is: in a file, at standard input or output, or nowhere: no records come in, or what is sent is dropped.
-#[derive(Clone, Copy, PartialEq, Eq)]
+#[derive(Clone, Copy)]
 pub enum Place {
     File,
     Stream,
@@ -141,17 +141,19 @@ fn added<'a>(
     Ok(one)
 }
 
-/// Adds the captures that words give.
+/// The captures that words give after earlier ones, with those.
 fn add_words<'a>(
     direction: Direction,
     form: WordForm,
     words: &[&'a str],
-    given: &mut Vec<Replaced<'a>>,
-) -> Result<(), WordProblem<'a>>
-    ensures given { OnOk result (Some (map row_of given.new.items) ≡ spec.rows_from form (map row_of given.old.items) (map (λ word. word.now) words.now)) }
-    ensures none { IfErr result (λ fault. fault ≢ WordProblem.Memory → spec.rows_from form (map row_of given.old.items) (map (λ word. word.now) words.now)
+    earlier: Vec<Replaced<'a>>,
+) -> Result<Vec<Replaced<'a>>, WordProblem<'a>>
+    ensures given { IfOk result (λ given. Some (map row_of given.items) ≡ spec.rows_from form (map row_of earlier.entry.items)
+        (map (λ word. word.now) words.now)) }
+    ensures none { IfErr result (λ fault. fault ≢ WordProblem.Memory → spec.rows_from form (map row_of earlier.entry.items) (map (λ word. word.now) words.now)
         ≡ None) }
 {
+    let mut given = earlier;
     for word in words {
         let one = match added(direction, form, word, given.as_slice()) {
             Ok(one) => one,
@@ -161,7 +163,7 @@ fn add_words<'a>(
             return Err(WordProblem::Memory);
         }
     }
-    Ok(())
+    Ok(given)
 }
 
 /// The captures that words PORT=NAME and words PORT give.
@@ -179,54 +181,44 @@ pub fn captures_of<'a>(
     ensures none { IfErr result (λ fault. fault ≢ WordProblem.Memory → spec.rows_of (map (λ word. word.now) named.now) (map (λ word. word.now) bare.now)
         ≡ None) }
 {
-    let mut given = Vec::new(alloc);
-    add_words(direction, WordForm::Named, named, &mut given)?;
-    add_words(direction, WordForm::Bare, bare, &mut given)?;
-    Ok(given)
-}
-
-/// Writes these texts, one after the other.
-fn say<W: fmt::Write>(f: &mut fmt::Formatter<W>, texts: &[&str]) -> fmt::Result {
-    for text in texts {
-        f.write_str(text)?;
-    }
-    Ok(())
+    let given = add_words(direction, WordForm::Named, named, Vec::new(alloc))?;
+    add_words(direction, WordForm::Bare, bare, given)
 }
 
 impl fmt::Display for WordProblem<'_> {
     fn fmt<W: fmt::Write>(&self, f: &mut fmt::Formatter<W>) -> fmt::Result {
-        let (direction, one, other) = match *self {
-            WordProblem::Memory => return f.write_str("fault: memory"),
+        match *self {
+            WordProblem::Memory => f.write_str("fault: memory"),
             WordProblem::Unread(word, form) => {
                 let wanted = match form {
                     WordForm::Named =>
                         "PORT=NAME: PORT a digit from 0 to 7, NAME a capture, or - for the standard stream",
                     WordForm::Bare => "a port: a digit from 0 to 7",
                 };
-                return say(f, &["error: '", word, "' is not ", wanted]);
+                write!(f, "error: '{word}' is not {wanted}")
             }
-            WordProblem::Clash(direction, one, other) => (direction, one, other),
-        };
-        let (word, earlier, port) = (one.word, other.word, one.port);
-        if other.port != port {
-            let both = match direction {
-                Direction::In => "' both read standard input: one port alone can",
-                Direction::Out => "' both write standard output: one port alone can",
-            };
-            return say(f, &["error: '", earlier, "' and '", word, both]);
+            WordProblem::Clash(direction, one, other) => {
+                let (word, earlier, port) = (one.word, other.word, one.port);
+                if other.port == port {
+                    let (another, words) = match direction {
+                        Direction::In => ("another input", "--in or --no-in"),
+                        Direction::Out => ("another output", "--out or --no-out"),
+                    };
+                    return write!(
+                        f,
+                        "error: '{word}' gives port {port} {another} than '{earlier}': one {words} for each port"
+                    );
+                }
+                let both = match direction {
+                    Direction::In => "read standard input",
+                    Direction::Out => "write standard output",
+                };
+                write!(
+                    f,
+                    "error: '{earlier}' and '{word}' both {both}: one port alone can"
+                )
+            }
         }
-        let (another, rest) = match direction {
-            Direction::In => (
-                " another input than '",
-                "': one --in or --no-in for each port",
-            ),
-            Direction::Out => (
-                " another output than '",
-                "': one --out or --no-out for each port",
-            ),
-        };
-        write!(f, "error: '{word}' gives port {port}")?;
-        say(f, &[another, earlier, rest])
     }
 }
 
@@ -286,10 +278,9 @@ impl<'a> Replacements<'a> {
         ensures inputs { IfOk result (λ given. map row_of given.inputs.items ≡ spec.only input.now ∷ []) }
         ensures outputs { IfOk result (λ given. map row_of given.outputs.items ≡ spec.only output.now ∷ []) }
     {
-        let mut given = Replacements::none(alloc);
-        given.inputs.push(capture_named(input, 0, input))?;
-        given.outputs.push(capture_named(output, 0, output))?;
-        Ok(given)
+        let inputs = Vec::from_slice(alloc, &[capture_named(input, 0, input)])?;
+        let outputs = Vec::from_slice(alloc, &[capture_named(output, 0, output)])?;
+        Ok(Replacements { inputs, outputs })
     }
 
     /// The first of these ports that a pipeline with this number of ports does not have.

@@ -1,7 +1,6 @@
 -- The files, and then the standard streams.
 use Rattle.std.proofs.Common.{rules, ◌≡◌, ◌∙◌, ◌++◌, [], List, map, ap}
-use Rattle.dp_captures.specs.declared.guard.Kept.{Kept}
-use Rattle.dp_captures.specs.Guarding.{read_target, targets}
+use Rattle.dp_captures.specs.{declared.guard.Kept.Kept, Guarding.read_target, Guarding.targets}
 use Rattle.dp_captures.proofs.Opened.{two_more}
 use Rattle.dp_captures.proofs.guard.files_of_run.Goals as goal
 

@@ -1,12 +1,11 @@
 -- One output more is apart.
 use Rattle.std.proofs.Common.{rules, ◌<◌, length, add-one, arith}
 use Rattle.dp_captures.specs.Guarding.{output_target}
-use Rattle.dp_captures.proofs.Guarding.{apart_more, none_left}
-use Rattle.dp_captures.proofs.Opened.{output_named}
+use Rattle.dp_captures.proofs.{Guarding.apart_more, Guarding.none_left, Opened.output_named}
 use Rattle.dp_captures.proofs.guard.refuse_open.Goals as goal
 
-pub loop-port-init : goal.loop-port-init
-loop-port-init g c = λ rest. rest
+pub bounds-names-port : goal.bounds-names-port
+bounds-names-port g c = omega (arith, c.loop-port-test.true)
 
 pub loop-port-preserved : goal.loop-port-preserved
 loop-port-preserved g c rest =
@@ -16,12 +15,6 @@ loop-port-preserved g c rest =
 
 pub returns-clause-apart : goal.returns-clause-apart
 returns-clause-apart g c = c.loop-port.invariant (none_left output_target _ c.args.outputs.now c.loop-port.port (omega (arith, c.loop-port-test.false)))
-
-pub returns-in-Err-clause-apart : goal.returns-in-Err-clause-apart
-returns-in-Err-clause-apart g c = tt
-
-pub returns-clause-named : goal.returns-clause-named
-returns-clause-named g c = tt
 
 pub returns-in-Err-clause-named : goal.returns-in-Err-clause-named
 returns-in-Err-clause-named g c =

@@ -1,9 +1,6 @@
 -- The captures of one more port.
-use Rattle.std.proofs.Common.{rules, ◌≡◌, ◌∙◌, List, length, length-append, map, ap, arith}
-use Rattle.dp_captures.specs.declared.names.CaptureNames.{CaptureNames}
-use Rattle.dp_captures.specs.declared.words.Replaced.{Replaced}
-use Rattle.dp_captures.specs.Names.{input_capture, output_capture}
-use Rattle.dp_captures.specs.Words.{capture_at}
+use Rattle.std.proofs.Common.{rules, ◌∙◌, length, length-append, map, ap, arith}
+use Rattle.dp_captures.specs.{declared.names.CaptureNames.CaptureNames, Names.input_capture, Names.output_capture}
 use Rattle.dp_captures.proofs.Chosen.{captures_more}
 use Rattle.dp_captures.proofs.names.names_of.Goals as goal
 

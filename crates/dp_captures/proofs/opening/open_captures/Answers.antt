@@ -1,8 +1,8 @@
 -- The captures are open and apart; or the fault is the first.
 use Rattle.std.proofs.Common.{inl, inr, ap, arith, length}
-use Rattle.dp_captures.specs.Files.{IsOpenedInput, IsOpenedOutput}
-use Rattle.dp_captures.specs.Names.{input_capture, output_capture}
-use Rattle.dp_captures.proofs.Opened.{all_opened, guarded, if_err, none_opened, on_ok}
+use Rattle.std.proofs.lemmas.Result.{IfErr-weaker}
+use Rattle.dp_captures.specs.{Files.IsOpenedInput, Files.IsOpenedOutput, Names.input_capture, Names.output_capture}
+use Rattle.dp_captures.proofs.Opened.{all_opened, guarded, none_opened, on_ok}
 use Rattle.dp_captures.proofs.opening.open_captures.Goals as goal
 
 pub files_of_run-requires-2 : goal.files_of_run-requires-2
@@ -54,7 +54,7 @@ returns-clause-guarded g c = guarded c.args.reads.now c.open_inputs.new.inputs.i
     c.refuse_open.result c.in-Ok-files_of_run.ensures c.as_slice-2.ensures.value c.as_slice-3.ensures.value c.refuse_open.ensures.apart
 
 pub returns-clause-first : goal.returns-clause-first
-returns-clause-first g c = if_err c.refuse_open.result _ _ (λ fault of_output. inr (
+returns-clause-first g c = IfErr-weaker c.refuse_open.result _ _ (λ fault of_output. inr (
   all_opened IsOpenedInput input_capture c.args.names.now c.open_inputs.new.inputs.items _ c.in_default.ensures.all c.open_inputs.ensures.opened,
   c.open_outputs.ensures.opened,
   of_output,

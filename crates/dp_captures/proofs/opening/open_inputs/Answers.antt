@@ -1,8 +1,6 @@
 -- One input more.
 use Rattle.std.proofs.Common.{rules, ◌≡◌, ◌<◌, ◌∷◌, ◌++◌, [], length, length-append, arith}
-use Rattle.dp_captures.specs.Files.{IsOpenedInput}
-use Rattle.dp_captures.specs.Names.{input_capture}
-use Rattle.dp_captures.specs.Opening.{IsOf}
+use Rattle.dp_captures.specs.{Files.IsOpenedInput, Names.input_capture, Opening.IsOf}
 use Rattle.dp_captures.proofs.Opened.{captures_opened, input_named}
 use Rattle.dp_captures.proofs.opening.open_inputs.Goals as goal
 

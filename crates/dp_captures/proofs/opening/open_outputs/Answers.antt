@@ -1,8 +1,6 @@
 -- One output more.
 use Rattle.std.proofs.Common.{rules, ◌≡◌, ◌<◌, ◌∷◌, ◌++◌, [], length, length-append, arith}
-use Rattle.dp_captures.specs.Files.{IsOpenedOutput}
-use Rattle.dp_captures.specs.Names.{output_capture}
-use Rattle.dp_captures.specs.Opening.{IsOf}
+use Rattle.dp_captures.specs.{Files.IsOpenedOutput, Names.output_capture, Opening.IsOf}
 use Rattle.dp_captures.proofs.Opened.{captures_opened, output_named}
 use Rattle.dp_captures.proofs.opening.open_outputs.Goals as goal
 

@@ -5,5 +5,5 @@ use Rattle.dp_captures.proofs.words.add_words.Given as goal
 
 abbrev pub invariant-loop-word : goal.invariant-loop-word
 invariant-loop-word l =
-    rows_from l.form (map row_of l.given.items) (map (λ word. word.now) (drop l.word-index l.words)) ≡ rows_from l.form (map row_of l.initial.given.items)
+    rows_from l.form (map row_of l.given.items) (map (λ word. word.now) (drop l.word-index l.words)) ≡ rows_from l.form (map row_of l.fn.earlier.items)
     (map (λ word. word.now) l.words)

@@ -1,9 +1,6 @@
 -- The count of the file that did not take everything.
 use Rattle.std.proofs.Common.{◌∙◌, ap}
-use Rattle.dp_pcap.specs.declared.buffered.Buffered.{Buffered}
-use Rattle.dp_pcap.specs.Buffers.{writer_inner}
-use Rattle.dp_pcap.specs.Counting.{records_in}
-use Rattle.dp_pcap.specs.OfStd.{buffered_writer}
+use Rattle.dp_pcap.specs.{declared.buffered.Buffered.Buffered, Buffers.writer_inner, Counting.records_in, OfStd.buffered_writer}
 use Rattle.dp_captures.specs.declared.guarded.Guarded.{Guarded}
 use Rattle.dp_captures.proofs.Took.{whole_counted}
 use Rattle.dp_captures.proofs.outlet.OfBufWriterGuardedOutlet.close.Goals as goal
