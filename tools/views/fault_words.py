@@ -116,7 +116,7 @@ def command(document: Document, verb: str, node: str) -> str:
 
 def certificate_help(document: Document, node: str, is_read: bool) -> str:
     """How to write another certificate than one that is not read or does not fit, or who says why none is inferred."""
-    is_single, cert, is_accepted = "pipeline" not in document, document["cert"], document["inferred"]["accepted"]
+    is_single, cert, is_accepted = "pipeline" not in document, document["cert"], document["inferred"][0]
     if is_accepted:
         words = (INFERRED if is_read else "") + ("" if is_single else f"{LEAVE_OUT}or ")
         return helps(f"{words}{command(document, 'infer', node)} > {cert}")
@@ -144,7 +144,7 @@ def certificate_said(document: Document, failed: Failed) -> str:
     """Of a node whose certificate is none."""
     where = str(failed.line)
     if failed.cause == BAD_COUNT:
-        rows, count = max(text_in(document)[0].count("\n") - 1, 0), document["inferred"]["instructions"]
+        rows, count = max(text_in(document)[0].count("\n") - 1, 0), document["inferred"][1]
         where = f" it has {rows} rows, and {document['program']} has {count} instructions"
     said = because(f"line {failed.line}: {CERTIFICATES[failed.cause]}") + f"  at: {document['cert']}:{where}\n"
     return said + certificate_help(document, failed.node, False)

@@ -116,20 +116,20 @@ fn node_of(error: PipeError) -> Option<Entry> {
     }
 }
 
-/// Whether a node's program is accepted with an inferred certificate, and the number of its instructions.
+/// Whether a node's program is accepted with an inferred certificate, as 0 or 1, and the number of its instructions.
 fn inferred(
     alloc: Global,
     subject: Subject<'_>,
     sources: &Sources,
     asked: Asked<'_>,
-) -> Result<(bool, usize), PipeError> {
+) -> Result<[u64; 2], PipeError> {
     let program = program_of(alloc, sources, asked)?;
     let is_accepted = match infer(alloc, &program, subject.env(), asked.node) {
         Ok(_) => true,
         Err(InferError::NoCert { .. }) => false,
         Err(InferError::Memory) => return Err(PipeError::Memory),
     };
-    Ok((is_accepted, program.instrs().len()))
+    Ok([u64::from(is_accepted), program.instrs().len() as u64])
 }
 
 /// Says what of a node is at fault that is not loaded or has no verdict: the names of its files, the text that is at fault, a file that was not read,
@@ -146,17 +146,15 @@ pub fn say_unloaded(
         return;
     };
     let mut to = begun(alloc, "unloaded");
-    to.item("cert", asked.cert.map_or(Item::Null, Item::Text));
+    let cert = match asked.cert {
+        Some(cert) => Item::Text(cert),
+        None => Item::Null,
+    };
+    to.item("cert", cert);
     to.shown("error", error);
     if let PipeError::BadCert(_, _) | PipeError::Refused { .. } = error {
         match inferred(alloc, subject, sources, asked) {
-            Ok((is_accepted, count)) => to.object(
-                "inferred",
-                &[
-                    ("accepted", Item::Bool(is_accepted)),
-                    ("instructions", Item::Number(count as u64)),
-                ],
-            ),
+            Ok(numbers) => to.numbers("inferred", &numbers),
             Err(_) => err.has_failed = true,
         }
     }
@@ -164,12 +162,12 @@ pub fn say_unloaded(
         to.item("pipeline", Item::Text(file));
     }
     to.item("program", Item::Text(asked.program));
-    let text = match error {
-        PipeError::Asm(_, _) => sources.get(asked.program),
-        PipeError::BadCert(_, _) => sources.get(asked.cert.unwrap_or("")),
-        _ => None,
+    let at_fault = match error {
+        PipeError::Asm(_, _) => asked.program,
+        PipeError::BadCert(_, _) => asked.cert.unwrap_or(""),
+        _ => "",
     };
-    if let Some(text) = text {
+    if let Some(text) = sources.get(at_fault) {
         add_text(&mut to, text);
     }
     if let Some(unread) = subject.unread(node, sources) {

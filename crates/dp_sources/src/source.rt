@@ -5,7 +5,7 @@ ghost use Rattle.std.specs.Str.{bytes_eq};
 ghost use Rattle.dp_sources.specs.Sources.{files_of};
 
 use dp_load::{FetchFault, Files};
-use std::alloc::Global;
+use std::alloc::{AllocError, Global};
 use std::io;
 
 /// Why a file was not read.
@@ -59,7 +59,12 @@ impl Sources {
     pub fn find(&self, name: &str) -> Option<&Source>
         ensures { option_map (λ file. file.now) result ≡ find (λ file. bytes_eq (string_bytes file.name) name.now) self.now.files.items }
     {
-        self.files.iter().find(|file| file.name.as_str() == name)
+        for file in self.files.as_slice() {
+            if file.name.as_str() == name {
+                return Some(file);
+            }
+        }
+        None
     }
 
     /// The file of this name, if it was not read.
@@ -90,6 +95,9 @@ impl Files for Lent<'_> {
 
     fn fetch(&mut self, alloc: Global, name: &str) -> Result<Vec<u8>, FetchFault> {
         let bytes = self.0.get(name).ok_or(FetchFault::Missing)?;
-        bytes.to_vec(alloc).map_err(|_| FetchFault::Memory)
+        match bytes.to_vec(alloc) {
+            Ok(bytes) => Ok(bytes),
+            Err(AllocError) => Err(FetchFault::Memory),
+        }
     }
 }

@@ -160,7 +160,7 @@ pub fn read_sources<R: Files>(
     let mut sources = Sources::new(alloc);
     for index in 0..MAX_NODES {
         let node = entry_at(index);
-        if (which.is_none() || which == Some(node))
+        if which.unwrap_or(node) == node
             && let Some(asked) = subject.node(node)
         {
             add_file(rt, alloc, asked.program, &mut sources)?;
