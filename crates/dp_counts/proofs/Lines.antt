@@ -4,8 +4,7 @@ use Rattle.std.proofs.Common.{append_assoc, append-nil, add-one, get_or}
 use Rattle.std.specs.Prelude.{slice_get}
 use Rattle.std.specs.List.{flat_map}
 use Rattle.std.proofs.lemmas.Option.{same_Some, slice_get-get_or}
-use Rattle.dp_console.specs.declared.reply.Text.{Text}
-use Rattle.dp_console.specs.Replies.{Says}
+use Rattle.dp_console.specs.{declared.reply.Text.Text, Replies.Says}
 use Rattle.dp_counts.specs.Totals.{lines_from}
 
 pub says_nothing : (text : Text) → Says text text (Some [])

@@ -1,13 +1,11 @@
 -- Whole node runs are counted: each number grows by its steps.
-use Rattle.std.proofs.Common.{◌≡◌, ℕ, suc, ◌+◌, ◌*◌, ◌%◌, ◌<◌, Bool, true, false}
+use Rattle.std.proofs.Common.{◌≡◌, ℕ, suc, ◌+◌, ◌*◌, ◌%◌, ◌<◌, true}
 use Rattle.std.proofs.Common.{◌&&◌, List, [], ◌∷◌, refl, sym, ◌∙◌, ap, subst, arith, add-zero}
 use Rattle.std.specs.Prelude.{◌==◌, ◌≤◌, nat_lt, slice_index, Option, Some, None, ⊤, if◌then◌else◌}
-use Rattle.std.proofs.lemmas.Bool.{and_from, lt-ltb}
+use Rattle.std.proofs.lemmas.Bool.{and_from, cond_both, lt-ltb}
 use Rattle.std.proofs.Math.Nat.{mod-eq_of_lt}
 use Rattle.std.proofs.Math.Bool.{and-true}
-use Rattle.dp_model.specs.Arithmetic.{wrapped}
-use Rattle.dp_model.specs.declared.env.Entry.{Entry}
-use Rattle.dp_model.specs.declared.env.Entry.TheVariants.{Port, Ring}
+use Rattle.dp_model.specs.{Arithmetic.wrapped, declared.env.Entry.Entry, declared.env.Entry.TheVariants.Port, declared.env.Entry.TheVariants.Ring}
 use Rattle.dp_counts.specs.declared.counts.StepCounts.{StepCounts}
 use Rattle.dp_engine.specs.declared.watch.Way.{Way}
 use Rattle.dp_engine.specs.declared.watch.Way.TheVariants.{On, To, Out, Cut}
@@ -186,14 +184,9 @@ counts_steps t t' events all follows seen = (
 
 -- counts that begin are 0
 pub begins_at_zero : BeginsAtZero
-begins_at_zero t none node label = go (nat_lt label 1024 && is_one_of_eight node)
-  where
-    zeros : counts_at t node label ≡ record { ran = 0; taken = 0; cut = 0 }
-    zeros = rw (ran_none t (place_of node) label none, none.taken (place_of node + label), none.cut (place_of node + label)) refl
-
-    go : (b : Bool) → (if b then counts_at t node label else record { ran = 0; taken = 0; cut = 0 }) ≡ record { ran = 0; taken = 0; cut = 0 }
-    go true = zeros
-    go false = refl
+begins_at_zero t none node label =
+    cond_both (nat_lt label 1024 && is_one_of_eight node) _ _ (λ s. s ≡ record { ran = 0; taken = 0; cut = 0 })
+    (λ _. rw (ran_none t (place_of node) label none, none.taken (place_of node + label), none.cut (place_of node + label)) refl) (λ _. refl)
 
 -- what is shown of a turn is counted
 pub turns_counted : CountsTurns

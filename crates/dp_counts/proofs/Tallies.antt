@@ -5,11 +5,8 @@ use Rattle.std.specs.Prelude.{◌==◌, ◌≤◌, replicate, slice_index, slice
 use Rattle.std.proofs.lemmas.Bool.{eqb-true, eqb-false}
 use Rattle.std.proofs.Math.Nat.{mod-eq_of_lt, mod-add-mod, mod-lt}
 use Rattle.std.proofs.lemmas.List.{get_or-set_other, get_or-set_same, length-set}
-use Rattle.dp_model.specs.Arithmetic.{wrapped}
-use Rattle.dp_model.specs.Machine.{State}
-use Rattle.dp_model.specs.declared.env.Entry.{Entry}
-use Rattle.dp_model.specs.declared.env.Entry.TheVariants.{Port, Ring}
-use Rattle.dp_model.specs.Laws.Lists.{get_replicate}
+use Rattle.dp_model.specs.{Arithmetic.wrapped, Machine.State, declared.env.Entry.Entry}
+use Rattle.dp_model.specs.{declared.env.Entry.TheVariants.Port, declared.env.Entry.TheVariants.Ring, Laws.Lists.get_replicate}
 use Rattle.dp_engine.specs.declared.watch.Way.{Way}
 use Rattle.dp_engine.specs.declared.watch.Way.TheVariants.{On, To, Out, Cut}
 use Rattle.dp_engine.specs.Watching.{Event, Began, Ran, IsOneOfEight, SeesAll}

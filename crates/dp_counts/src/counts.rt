@@ -174,7 +174,6 @@ impl Watch for Counts {
     ghost sees = { counts_see };
 
     #[inline(always)]
-    #[tactic(auto, using(std::proofs::lemmas::Grind::common_steps))]
     fn begin(&mut self, node: Entry, view: View<'_>) {
         let place = place_of(node);
         self.place = place;

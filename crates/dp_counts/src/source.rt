@@ -84,8 +84,8 @@ fn lines_of<'a>(
     for text in whole.split(|byte| *byte == b'\n') {
         number = number.saturating_add(1);
         let mut step = None;
-        if places.get(label) == Some(&number)
-            && let Some(instr) = instrs.get(label)
+        if let (Some(place), Some(instr)) = (places.get(label), instrs.get(label))
+            && *place == number
         {
             let role = Role::of(instr);
             step = Some(Step { label, role });

@@ -1,6 +1,5 @@
 -- The sum so far.
-use Rattle.std.proofs.Common.{◌≡◌, take}
-use Rattle.std.specs.Prelude.{sum_by}
+use Rattle.std.specs.Prelude.{◌≡◌, sum_by, take}
 use Rattle.dp_model.specs.Arithmetic.{wrapped}
 use Rattle.dp_counts.specs.Totals.{share_of_line}
 use Rattle.dp_counts.proofs.listing.share_of_node.Given as goal
