@@ -1,4 +1,2 @@
 mod Numbers
 mod Stops
-mod Tables
-mod Words

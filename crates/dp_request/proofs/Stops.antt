@@ -1,8 +1,7 @@
 -- Results and faults.
 use Rattle.std.proofs.Common.{◌≡◌, ◌⊎◌, inl, inr, ℕ, Result, Ok, Err, IfErr}
-use Rattle.dp_sources.specs.declared.fault.Fault.{Fault}
+use Rattle.dp_sources.specs.{declared.fault.Fault.Fault, Faults.status_of}
 use Rattle.dp_sources.specs.declared.fault.Fault.TheVariants as fault
-use Rattle.dp_sources.specs.Faults.{status_of}
 
 -- where a result is `Err`, one fact of its error gives another
 pub map_err : {A B : Type 0} {P Q : B → Type 0} (r : Result A B) → ((b : B) → P b → Q b) → IfErr r P → IfErr r Q

@@ -10,33 +10,34 @@
 use clap::{Arg, ArgAction, Command};
 use std::alloc::{AllocError, Global};
 
-/// The commands, in the order in which help lists them: the name of each, what it does, and its words in the order in which help lists them.
-const COMMANDS: &str = "filter: Runs one program on one capture, with an inferred certificate:
-    PROGRAM IN OUT room segs name counts source drops json progress unbuffered;
-one: Runs one node program on one port, from a capture to a capture:
-    NODE CERT IN OUT counts source drops json progress unbuffered;
-check: Checks the programs of a pipeline:
-    FILE routes cost sizes json;
-infer: Infers the certificates of a pipeline, and prints one:
-    FILE WHICH;
-infer-one: Infers the certificate of one program on the port of dpv one, and prints it:
-    NODE;
-explain: Explains why programs of a pipeline are refused, and what helps:
-    FILE WHICH_OR_ALL json;
-explain-one: Explains why one program is refused on the port of dpv one, and what helps:
-    NODE CERT_OR_NONE json;
-show: Prints a program of a pipeline with what is known before each instruction:
-    FILE WHICH_OR_PIPELINE dot calls counts_file;
-show-one: Prints one program, on the port of dpv one, with what is known before each instruction:
-    NODE CERT_OR_NONE dot calls;
-run: Runs a pipeline, from its captures to its captures:
-    FILE inputs outputs no_inputs no_outputs routes refuse counts source drops json progress unbuffered;
-trace: Prints the first records of a pipeline instruction by instruction, and writes no capture:
-    FILE routes records port refuse only instr bytes json_lines;
-trace-one: Prints the first records of one program, on the port of dpv one, instruction by instruction:
-    NODE CERT IN records port refuse only instr bytes json_lines at_once;
-mem: Runs a heap script:
-    SCRIPT";
+/// The commands, in the order in which help lists them: the name of each, its words in the order in which help lists them, and what it does.
+const COMMANDS: &str = "\
+filter: PROGRAM IN OUT room segs name counts source drops json progress unbuffered: \
+    Runs one program on one capture, with an inferred certificate
+one: NODE CERT IN OUT counts source drops json progress unbuffered: \
+    Runs one node program on one port, from a capture to a capture
+check: FILE routes cost sizes json: \
+    Checks the programs of a pipeline
+infer: FILE WHICH: \
+    Infers the certificates of a pipeline, and prints one
+infer-one: NODE: \
+    Infers the certificate of one program on the port of dpv one, and prints it
+explain: FILE WHICH_OR_ALL json: \
+    Explains why programs of a pipeline are refused, and what helps
+explain-one: NODE CERT_OR_NONE json: \
+    Explains why one program is refused on the port of dpv one, and what helps
+show: FILE WHICH_OR_PIPELINE dot calls counts_file: \
+    Prints a program of a pipeline with what is known before each instruction
+show-one: NODE CERT_OR_NONE dot calls: \
+    Prints one program, on the port of dpv one, with what is known before each instruction
+run: FILE inputs outputs no_inputs no_outputs routes refuse counts source drops json progress unbuffered: \
+    Runs a pipeline, from its captures to its captures
+trace: FILE routes records port refuse only instr bytes json_lines: \
+    Prints the first records of a pipeline instruction by instruction, and writes no capture
+trace-one: NODE CERT IN records port refuse only instr bytes json_lines at_once: \
+    Prints the first records of one program, on the port of dpv one, instruction by instruction
+mem: SCRIPT: \
+    Runs a heap script";
 
 /// The words: the name by which commands list each, how it is given, and its help. An operand that may be left out ends in `?`. After an option stands
 /// its letter, if it has one, or the name of its value, which ends in `..` if it may be given several times.
@@ -81,12 +82,16 @@ instr: --instr LABEL: the label, or the number, of an instruction that a printed
 bytes: --match BYTES@OFFSET: the bytes of a printed record, as 0800@12, or an IPv4 address that it comes from or goes to
 ";
 
+/// What stands before this mark in a text, and what stands after it.
+fn cut_at<'t>(text: &'t str, mark: &str) -> (&'t str, &'t str) {
+    text.split_once(mark).unwrap_or((text, ""))
+}
+
 /// What stands after this name in the table of words.
 fn word_of(name: &str) -> &'static str {
     for line in WORDS.lines() {
-        if let Some((own, rest)) = line.split_once(": ")
-            && own == name
-        {
+        let (own, rest) = cut_at(line, ": ");
+        if own == name {
             return rest;
         }
     }
@@ -95,15 +100,15 @@ fn word_of(name: &str) -> &'static str {
 
 /// The option of this form, without its dashes.
 fn option_of<'a>(alloc: Global, form: &'static str) -> Arg<'a> {
-    let (name, value) = form.split_once(' ').unwrap_or((form, ""));
+    let (name, value) = cut_at(form, " ");
     let arg = Arg::new(alloc, name).long(name);
     match value.as_bytes() {
         [] => arg.action(ArgAction::SetTrue),
-        [b'-', letter] => arg.short(char::from(*letter)).action(ArgAction::SetTrue),
-        _ => match value.strip_suffix("..") {
-            Some(value) => arg.value_name(value).action(ArgAction::Append),
-            None => arg.value_name(value),
-        },
+        [b'-', letter] => arg.action(ArgAction::SetTrue).short(char::from(*letter)),
+        [.., b'.'] => arg
+            .action(ArgAction::Append)
+            .value_name(cut_at(value, "..").0),
+        _ => arg.value_name(value),
     }
 }
 
@@ -112,19 +117,17 @@ fn arg_of<'a>(alloc: Global, form: &'static str) -> Arg<'a> {
     if let Some(option) = form.strip_prefix("--") {
         return option_of(alloc, option);
     }
-    match form.strip_suffix('?') {
-        Some(operand) => Arg::new(alloc, operand),
-        None => Arg::new(alloc, form).required(true),
-    }
+    let (operand, _) = cut_at(form, "?");
+    Arg::new(alloc, operand).required(operand == form)
 }
 
 /// The command of a row.
 fn command_of<'a>(alloc: Global, row: &'static str) -> Result<Command<'a>, AllocError> {
-    let (name, rest) = row.split_once(": ").unwrap_or((row, ""));
-    let (about, words) = rest.split_once(":\n    ").unwrap_or((rest, ""));
+    let (name, rest) = cut_at(row, ": ");
+    let (words, about) = cut_at(rest, ": ");
     let mut command = Command::new(alloc, name).about(about);
     for word in words.split(' ') {
-        let (form, help) = word_of(word).split_once(": ").unwrap_or(("", ""));
+        let (form, help) = cut_at(word_of(word), ": ");
         command = command.arg(arg_of(alloc, form).help(help))?;
     }
     Ok(command)
@@ -136,13 +139,14 @@ fn command_of<'a>(alloc: Global, row: &'static str) -> Result<Command<'a>, Alloc
 ///
 /// `AllocError` if memory is refused.
 pub fn command<'a>(alloc: Global) -> Result<Command<'a>, AllocError> {
-    let mut dpv = Command::new(alloc, "dpv")
+    let mut commands = Vec::new(alloc);
+    for row in COMMANDS.lines() {
+        commands.push(command_of(alloc, row)?)?;
+    }
+    Command::new(alloc, "dpv")
         .version("0.2.0")
         .about("A packet forwarder whose programs are checked before they may touch a buffer")
         .subcommand_required(true)
-        .arg_required_else_help(true);
-    for row in COMMANDS.split(";\n") {
-        dpv = dpv.subcommand(command_of(alloc, row)?)?;
-    }
-    Ok(dpv)
+        .arg_required_else_help(true)
+        .subcommands(commands)
 }

@@ -27,7 +27,12 @@ pub fn node_named(word: &str) -> Option<Entry>
 fn are_digits(word: &str) -> bool
     ensures { result ≡ list_all is_ascii_digit word.now }
 {
-    word.as_bytes().iter().all(|b| b.is_ascii_digit())
+    for byte in word.as_bytes() {
+        if !byte.is_ascii_digit() {
+            return false;
+        }
+    }
+    true
 }
 
 /// Parses a word as a number: decimal digits, at most 18,446,744,073,709,551,615.

@@ -1,10 +1,10 @@
 //! A command that runs: its words, its host, and the files that it reads before it decides: the pipeline file, the files of `--routes`, and those of
 //! the nodes. What fails here fails with the reply that ends the command early.
 
-ghost use Rattle.std.specs.Prelude.{◌≡◌, ◌⊎◌, [], IfErr, IfOk, IfSome, None, Some, codes, find, map, nat_le, option_map};
+ghost use Rattle.std.specs.Prelude.{◌≡◌, ◌⊎◌, [], IfErr, IfOk, None, Some, find, map, nat_le, option_map};
 ghost use Rattle.clap.specs.Matches.{found_of};
 ghost use Rattle.dp_request.specs.Operands.{IsFlag, operand, table_in, tables_from, word_of, words_of};
-ghost use Rattle.dp_request.specs.Reading.{HasNoConfig, HasWrongRoutes, IsFault, IsLoaded, IsNotLoaded, IsNotReady, NamesNone};
+ghost use Rattle.dp_request.specs.Reading.{HasNoConfig, IsFault, IsLoaded, IsNotLoaded, IsNotReady, NamesNone};
 
 use crate::operands::node_named;
 use clap::ArgMatches;
@@ -42,20 +42,21 @@ impl<'a, 'w, R> Request<'a, 'w, R> {
     pub fn word(&self, name: &str) -> &'w str
         ensures { result.now ≡ operand (found_of self.now.words.now) name.now }
     {
-        self.words.get_str(name).unwrap_or("")
+        self.words.get_str(name).unwrap_or_default()
+    }
+
+    /// All values of an option, as the command line has them.
+    fn values(&self, name: &str) -> &'a [&'w str]
+        ensures { map (λ word. word.now) result.now ≡ words_of (found_of self.now.words.now) name.now }
+    {
+        self.words.get_strs(name).unwrap_or_default()
     }
 
     /// All values of an option.
     pub fn all(&self, name: &str) -> Result<Vec<&'w str>, AllocError>
         ensures { IfOk result (λ all. map (λ word. word.now) all.items ≡ words_of (found_of self.now.words.now) name.now) }
     {
-        match self.words.get_strs(name) {
-            Some(words) => {
-                let all = Vec::from_slice(self.alloc, words)?;
-                Ok(all)
-            }
-            None => Ok(Vec::new(self.alloc)),
-        }
+        Vec::from_slice(self.alloc, self.values(name))
     }
 
     /// Whether an option without a value is given.
@@ -149,33 +150,8 @@ fn named_by<'w, R>(
     Ok(named)
 }
 
-/// The files that the words of `--routes` name, or the reply to the first that names none.
-fn routes_named<'w, R>(request: &Request<'_, 'w, R>) -> Result<Vec<RoutesNamed<'w>>, Reply>
-    ensures named { IfOk result (λ named. Some (map (λ one. one.table) named.items)
-        ≡ tables_from [] (words_of (found_of request.now.words.now) (codes "routes"))) }
-    ensures wrong { IfErr result (HasWrongRoutes (found_of request.now.words.now)) }
-{
-    match request.words.get_strs("routes") {
-        Some(words) => named_by(request, words),
-        None => Ok(Vec::new(request.alloc)),
-    }
-}
-
-/// The reply to a file whose routes are not all printable, if they are not.
+/// Reads a file with routes, all of which are printable.
 #[tactic(auto, using(crate::proofs::Stops::fault_status))]
-fn strange<R>(request: &Request<'_, '_, R>, file: &RouteFile) -> Option<Reply>
-    ensures { IfSome result IsFault }
-{
-    if file.is_fit() {
-        return None;
-    }
-    let (alloc, name) = (request.alloc, file.source.name.as_str());
-    let mut reply = failed(alloc, Fault::File(name), request.flag("json"));
-    say_strange(alloc, file, &mut reply.err);
-    Some(reply)
-}
-
-/// Reads a file with routes.
 fn read_routes<R: Files>(
     request: &Request<'_, '_, R>,
     named: RoutesNamed<'_>,
@@ -188,10 +164,12 @@ fn read_routes<R: Files>(
         table: named.table,
         source,
     };
-    match strange(request, &file) {
-        Some(reply) => Err(reply),
-        None => Ok(file),
+    if file.is_fit() {
+        return Ok(file);
     }
+    let mut reply = failed(request.alloc, Fault::File(named.file), request.flag("json"));
+    say_strange(request.alloc, &file, &mut reply.err);
+    Err(reply)
 }
 
 /// Reads the files with routes, up to the first that is not read.
@@ -212,29 +190,17 @@ fn read_all_routes<R: Files>(
     Ok(files)
 }
 
-/// The first of these files whose table a pipeline with this number of tables does not have.
-fn first_beyond(files: &[RouteFile], tables: usize) -> Option<&RouteFile>
-    ensures { option_map (λ file. file.now) result ≡ find (λ file. nat_le tables file.table) files.now }
-{
-    files.iter().find(|file| tables <= file.table)
-}
-
-/// The first table with more routes that a pipeline with this number of tables does not have.
-#[tactic(auto, using(crate::proofs::Tables::found_first))]
-fn lacked_of(files: &[RouteFile], tables: usize) -> Option<usize>
-    ensures { result ≡ find (λ table. nat_le tables table) (map (λ file. file.table) files.now) }
-{
-    match first_beyond(files, tables) {
-        Some(file) => Some(file.table),
-        None => None,
-    }
-}
-
 /// The first table with more routes that an environment does not have.
 fn lacked_table(files: &[RouteFile], env: &Env) -> Option<usize>
     ensures { result ≡ find (λ table. nat_le env.now.tables table) (map (λ file. file.table) files.now) }
 {
-    lacked_of(files, usize::from(env.tables()))
+    let tables = usize::from(env.tables());
+    for file in files {
+        if tables <= file.table {
+            return Some(file.table);
+        }
+    }
+    None
 }
 
 /// A pipeline file that was read, and what it names.
@@ -298,7 +264,7 @@ fn given_of<R>(
 pub fn read_pipeline<R: Files>(request: &Request<'_, '_, R>) -> Result<Given, Reply>
     ensures { IfErr result (IsNotReady (found_of request.now.words.now)) }
 {
-    let named = routes_named(request)?;
+    let named = named_by(request, request.values("routes"))?;
     let source = read_file(request, request.word("FILE"))?;
     let routes = read_all_routes(request, named.as_slice())?;
     given_of(request, source, routes)

@@ -3,9 +3,6 @@ use Rattle.std.proofs.Common.{arith}
 use Rattle.std.proofs.lemmas.Grind.{common_steps}
 use Rattle.dp_request.proofs.operands.node_named.Goals as goal
 
-pub bounds-4-in-116-1 : goal.bounds-4-in-116-1
-bounds-4-in-116-1 c = grind (arith, common_steps)
-
 pub returns-in-112-clause-spelled : goal.returns-in-112-clause-spelled
 returns-in-112-clause-spelled c = grind (arith, common_steps)
 

@@ -1,5 +1,6 @@
 -- Each number is above the one before.
-use Rattle.std.proofs.Common.{sym}
+use Rattle.std.proofs.Common.{arith, sym}
+use Rattle.std.proofs.lemmas.Grind.{common_steps}
 use Rattle.dp_request.proofs.Numbers.{ascending, ascends_more, one_more}
 use Rattle.dp_request.proofs.operands.numbers_in.Goals as goal
 
@@ -12,3 +13,6 @@ loop-word-preserved c = record {
 
 pub returns-clause-ascending : goal.returns-clause-ascending
 returns-clause-ascending c = ascending 0 c.loop-word.last c.loop-word.numbers.items c.loop-word.invariant.ascends
+
+pub returns-in_default-clause-numbers : goal.returns-in_default-clause-numbers
+returns-in_default-clause-numbers c = grind (arith, common_steps)

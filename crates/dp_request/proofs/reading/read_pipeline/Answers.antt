@@ -6,6 +6,6 @@ use Rattle.dp_request.proofs.reading.read_pipeline.Goals as goal
 pub returns : goal.returns
 returns g c = map_err c.given_of.result (λ reply lacks. inr (
   map (λ file. file.table) c.in_ok-routes.routes.items,
-  rw (c.in_ok-routes.ensures.tables, c.as_slice.ensures.value) c.in_ok-named.ensures.named,
+  rw (c.in_ok-routes.ensures.tables, c.as_slice.ensures.value) (rw c.values.ensures at c.in_ok-named.ensures.named),
   inr lacks,
 )) c.given_of.ensures
