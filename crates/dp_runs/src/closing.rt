@@ -89,7 +89,7 @@ fn first_index(lost: &[Option<Incomplete>]) -> Option<usize>
     ensures index { result ≡ spec.first_lost lost.now }
     ensures within { IfSome result (λ index. index < length lost.now) }
 {
-    lost.iter().position(|loss| loss.is_some())
+    lost.iter().position(Option::is_some)
 }
 
 /// The first port whose output is incomplete.
@@ -188,9 +188,10 @@ pub fn problem_of<'a, I: Inlet>(
         RunCause::Out(k) => (k, failure.map_or(unknown, CaptureReason::System)),
         RunCause::Memory | RunCause::NoRoom => return None,
     };
-    let file = names.get(usize::from(port)).map(|names| match cause {
-        RunCause::In(..) => names.input.as_str(),
-        _ => names.output.as_str(),
-    });
+    let file = match (names.get(usize::from(port)), cause) {
+        (Some(names), RunCause::In(..)) => Some(names.input.as_str()),
+        (Some(names), _) => Some(names.output.as_str()),
+        (None, _) => None,
+    };
     Some(CaptureProblem { file, reason })
 }

@@ -52,8 +52,8 @@ impl fmt::Display for StopText {
 
     fn fmt<W: fmt::Write>(&self, f: &mut fmt::Formatter<W>) -> fmt::Result {
         match self.0 {
-            RunCause::Memory => write!(f, "fault: memory"),
-            RunCause::NoRoom => write!(f, "fault: region"),
+            RunCause::Memory => f.write_str("fault: memory"),
+            RunCause::NoRoom => f.write_str("fault: region"),
             RunCause::In(k, error) => write!(f, "fault: input {k} cause {}", error.number()),
             RunCause::Out(k) => write!(f, "fault: output {k}"),
         }
@@ -122,11 +122,7 @@ pub fn say_problem(
     if let Some(file) = problem.file {
         to.item("file", Item::Text(file));
     }
-    to.begin_list("front");
-    for byte in seen.front {
-        to.item("", Item::Number(u64::from(byte)));
-    }
-    to.end_list();
+    to.numbers("front", &seen.front);
     to.item("kind", Item::Text(kind));
     if let Some(link) = seen.link {
         to.item("link", Item::Number(u64::from(link)));

@@ -110,24 +110,22 @@ pub fn trace_records<K: CompiledPrograms, R: Feed, O: Write>(
     ensures { IsTraced pipeline pattern.items which.port which.records (map (seen R.remaining R.calls) ins.old)
         (map (seen R.remaining R.calls) ins.new) result.answer }
 {
-    let mut run = TracedRun {
-        answer: Err(RunCause::NoRoom),
-        printed: Printed::Whole,
-    };
+    let printed = Printed::Whole;
     if u64::from(pipeline.region()) < need(pipeline.env()) {
-        return run;
+        let answer = Err(RunCause::NoRoom);
+        return TracedRun { answer, printed };
     }
-    run.answer = Err(RunCause::Memory);
     let Ok(record) = Record::new(alloc, &pipeline, is_long) else {
-        return run;
+        let answer = Err(RunCause::Memory);
+        return TracedRun { answer, printed };
     };
     let mut printing = Printing {
         out,
         records: 0,
         record,
-        printed: Printed::Whole,
+        printed,
     };
-    run.answer = trace::<K, _, _>(alloc, pipeline, ins, pattern, which, &mut printing);
-    run.printed = printing.printed;
-    run
+    let answer = trace::<K, _, _>(alloc, pipeline, ins, pattern, which, &mut printing);
+    let printed = printing.printed;
+    TracedRun { answer, printed }
 }
