@@ -7,8 +7,7 @@ use Rattle.std.specs.List.{flat_map}
 use Rattle.std.specs.Prelude.{IfSome}
 use Rattle.dp_model.specs.Laws.Lists.{take_more}
 use Rattle.std.proofs.lemmas.List.{flat_map_more, map-append}
-use Rattle.dp_console.specs.declared.reply.Text.{Text}
-use Rattle.dp_console.specs.Replies.{Says}
+use Rattle.dp_console.specs.{declared.reply.Text.Text, Replies.Says}
 use Rattle.dp_verdict.specs.Reports.{join}
 
 both : (o m n : List ℕ) (a b : Option (List ℕ)) → IfSome a (λ w. m ≡ o ++ w) → IfSome b (λ w. n ≡ m ++ w) → IfSome (join a b) (λ w. n ≡ o ++ w)

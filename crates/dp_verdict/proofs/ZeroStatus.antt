@@ -1,18 +1,14 @@
 -- A check ends with status 0 only if the pipeline was loaded.
 use Rattle.std.proofs.Common.{◌≡◌, List, [], ◌∷◌, Option, Some, None, Result, Ok, Err, Bool, sym, ◌∙◌, ap, subst, inl, inr, arith}
 use Rattle.std.specs.Prelude.{IfErr, MatchOption}
-use Rattle.dp_load.specs.declared.error.PipeError.{PipeError}
-use Rattle.dp_load.specs.Pipelines.{Plan}
+use Rattle.dp_load.specs.{declared.error.PipeError.PipeError, Pipelines.Plan}
 use Rattle.dp_model.specs.declared.env.Entry.{Entry}
-use Rattle.dp_sources.specs.declared.fault.Fault.{Fault}
+use Rattle.dp_sources.specs.{declared.fault.Fault.Fault, Faults.IsFaultOf}
 use Rattle.dp_sources.specs.declared.fault.Fault.TheVariants as fault
-use Rattle.dp_verdict.specs.declared.report.RefusedAt.{RefusedAt}
-use Rattle.dp_verdict.specs.declared.report.Finding.{Finding}
-use Rattle.dp_verdict.specs.declared.report.Report.{Report}
+use Rattle.dp_verdict.specs.{declared.report.RefusedAt.RefusedAt, declared.report.Finding.Finding, declared.report.Report.Report}
 use Rattle.dp_console.specs.declared.reply.Reply.{Reply}
 use Rattle.dp_verdict.specs.Checks.{HasOnly, IsChecked, SaysRefused, refusal_of, refused_at}
 use Rattle.dp_sources.specs.Faults as faults
-use Rattle.dp_sources.specs.Faults.{IsFaultOf}
 use Rattle.dp_verdict.specs.Reports.{findings_of, status_of, status_with}
 
 pub fault_not_zero : (f : Fault) → faults.status_of f ≡ 0 → ⊥
