@@ -96,13 +96,24 @@ fn which_in<R>(request: &Request<'_, '_, R>) -> Result<Option<Entry>, Reply> {
     }
 }
 
+/// Explains or shows a node's program, or all of a pipeline.
+fn told<R: Files>(request: &Request<'_, '_, R>, which: Option<Entry>) -> Result<Reply, Reply> {
+    let about = read_about(request)?;
+    let subject = about.subject();
+    let sources = read_nodes(request, subject, which, How::Given)?;
+    match request.name {
+        "explain" | "explain-one" => {
+            let is_json = request.flag("json");
+            Ok(explain(request.alloc, subject, &sources, which, is_json))
+        }
+        _ => Ok(show(request, subject, &sources, which)),
+    }
+}
+
 /// `dpv explain FILE [WHICH]` and `dpv explain-one NODE [CERT]`.
 pub fn explained<R: Files>(request: &Request<'_, '_, R>) -> Result<Reply, Reply> {
     let which = which_in(request)?;
-    let about = read_about(request)?;
-    let sources = read_nodes(request, about.subject(), which, How::Given)?;
-    let (subject, is_json) = (about.subject(), request.flag("json"));
-    Ok(explain(request.alloc, subject, &sources, which, is_json))
+    told(request, which)
 }
 
 /// What is wrong with the words of `show`, if anything is.
@@ -119,13 +130,6 @@ fn show_problem(is_node: bool, is_counted: bool, is_dot: bool) -> Option<&'stati
     }
 }
 
-/// Shows a node's program, or a pipeline.
-fn shown_in<R: Files>(request: &Request<'_, '_, R>, which: Option<Entry>) -> Result<Reply, Reply> {
-    let about = read_about(request)?;
-    let sources = read_nodes(request, about.subject(), which, How::Given)?;
-    Ok(show(request, about.subject(), &sources, which))
-}
-
 /// `dpv show FILE [WHICH]` and `dpv show-one NODE [CERT]`.
 pub fn shown<R: Files>(request: &Request<'_, '_, R>) -> Result<Reply, Reply> {
     let (counts, is_dot) = (request.words.get_str("counts"), request.flag("dot"));
@@ -133,7 +137,7 @@ pub fn shown<R: Files>(request: &Request<'_, '_, R>) -> Result<Reply, Reply> {
         return Err(request.wrong("error: --calls is for a picture: add --dot, or leave it out"));
     }
     if request.words.get_str("NODE").is_some() {
-        return shown_in(request, Some(Entry::Port(0)));
+        return told(request, Some(Entry::Port(0)));
     }
     let (which, file) = (which_in(request)?, request.word("FILE"));
     if which.is_none() && file.ends_with(".dpv") {
@@ -145,10 +149,10 @@ pub fn shown<R: Files>(request: &Request<'_, '_, R>) -> Result<Reply, Reply> {
         return Err(request.wrong(problem));
     }
     let (Some(node), Some(file)) = (which, counts) else {
-        return shown_in(request, which);
+        return told(request, which);
     };
     let counted = counted_in(request, file, node)?;
-    match shown_in(request, which) {
+    match told(request, which) {
         Ok(reply) | Err(reply) => Ok(Reply {
             out: both(counted, &reply.out),
             ..reply

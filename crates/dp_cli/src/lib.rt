@@ -6,6 +6,9 @@
 //! the order in which faults are found. [`sizes_of`] returns how many bytes of a region each pool, ring and port takes; its contract says that they add
 //! up to what `need` of dp_engine returns. Tables and programs lie outside the region and are not counted.
 //!
+//! [`load_line`], [`check_line`], [`infer_line`], [`run_line`] and [`mem_line`] do what commands do over any files and captures, and print it on any two
+//! writers, without help or documents. They return the exit status.
+//!
 //! What not to do: do not print to the streams directly, as the [`Console`](dp_console::Console) remembers a failed write for the status.
 #![tactic(auto)]
 
@@ -17,6 +20,9 @@ mod sizes;
 mod tracing;
 
 pub use dp_captures::Streams;
+pub use dp_runs::run_line;
+pub use dp_script::mem_line;
+pub use dp_verdict::{check_line, infer_line, load_line};
 pub use program::{run_command_line, run_compiled};
 pub use sizes::{PoolSize, Sizes, sizes_of};
 pub use tracing::records_in;

@@ -10,6 +10,7 @@ ghost use Rattle.dp_cli.specs.Commands.{Answers, EndsCommand, EndsHelped};
 use crate::judging::{checked, explained, inferred, inferred_one, shown};
 use crate::running::{run_file, run_filter, run_one};
 use crate::tracing::{UNWRITTEN, traced};
+use clap::ArgMatches;
 use clap::error::ErrorKind;
 use dp_captures::Streams;
 use dp_console::{Console, DONE, FAULT, Reply, USAGE};
@@ -118,6 +119,12 @@ fn run_command<K: CompiledPrograms, R: Files, O: Write, E: Write>(
     }
 }
 
+/// Reads these words, of which the first is the name of the program.
+fn parsed<'w>(alloc: Global, words: &'w [String]) -> Result<ArgMatches<'w>, clap::Error> {
+    // Usage texts use this name, whatever the program's file is called.
+    command(alloc)?.bin_name("dpv")?.try_get_matches_from(words)
+}
+
 /// Runs the command that these words name, of which the first is the name of the program, and returns the status.
 fn run_given<K: CompiledPrograms, R: AllocGlobal + Files + Print + Eprint, O: Write, E: Write>(
     rt: &R,
@@ -125,11 +132,11 @@ fn run_given<K: CompiledPrograms, R: AllocGlobal + Files + Print + Eprint, O: Wr
     streams: Streams,
     reports_interpreted: bool,
     console: &mut Console<O, E>,
-) -> Result<u8, AllocError> {
+) -> u8 {
     let alloc = rt.alloc();
-    let matches = match command(alloc)?.try_get_matches_from(words) {
+    let matches = match parsed(alloc, words) {
         Ok(matches) => matches,
-        Err(error) => return Ok(wrong_words(rt, alloc, &error, console)),
+        Err(error) => return wrong_words(rt, alloc, &error, console),
     };
     let (name, words) = matches.subcommand().unwrap_or(("", &matches));
     let request = Request {
@@ -140,7 +147,24 @@ fn run_given<K: CompiledPrograms, R: AllocGlobal + Files + Print + Eprint, O: Wr
         name,
         words,
     };
-    Ok(run_command::<K, R, O, E>(&request, console))
+    run_command::<K, R, O, E>(&request, console)
+}
+
+/// The words of the command line, if all are UTF-8.
+fn words_in<R: Env + AllocGlobal>(rt: &R) -> Result<Option<Vec<String>>, AllocError> {
+    match std::env::args(rt) {
+        Ok(given) => Ok(Some(given.collect(rt.alloc())?)),
+        Err(error) if error.kind() == io::ErrorKind::OutOfMemory => Err(AllocError),
+        Err(_) => Ok(None),
+    }
+}
+
+/// The reply to words that are not UTF-8.
+fn unreadable(alloc: Global) -> Reply {
+    let mut reply = Reply::new(alloc);
+    reply.status = USAGE;
+    reply.err.say("error: an argument is not UTF-8\n");
+    reply
 }
 
 /// Runs the command that the words of the command line name, and returns the status.
@@ -149,47 +173,27 @@ fn run_words<
     R: Env + AllocGlobal + Files + Print + Eprint,
     O: Write,
     E: Write,
->(
-    rt: &R,
-    streams: Streams,
-    reports_interpreted: bool,
-    console: &mut Console<O, E>,
-) -> Result<u8, AllocError> {
-    let alloc = rt.alloc();
-    let given = match std::env::args(rt) {
-        Ok(given) => given,
-        Err(error) if error.kind() == io::ErrorKind::OutOfMemory => return Err(AllocError),
-        Err(_) => {
-            let mut reply = Reply::new(alloc);
-            reply.status = USAGE;
-            reply.err.say("error: an argument is not UTF-8\n");
-            return Ok(end(console, &reply));
+>(rt: &R, streams: Streams, reports_interpreted: bool, console: &mut Console<O, E>) -> u8 {
+    match words_in(rt) {
+        Ok(Some(words)) => {
+            run_given::<K, R, O, E>(rt, words.as_slice(), streams, reports_interpreted, console)
         }
-    };
-    // Usage texts use this name, whatever the program's file is called.
-    let mut words = Vec::new(alloc);
-    words.push(String::from_str(alloc, "dpv")?)?;
-    words.extend(given.skip(1))?;
-    run_given::<K, R, O, E>(rt, words.as_slice(), streams, reports_interpreted, console)
-}
-
-/// Opens the null device for reading, if there is one: a write to it fails.
-fn open_nothing<R: Files>(rt: &R) -> Result<Option<R::File>, AllocError> {
-    match fs::open(rt, "/dev/null") {
-        Ok(file) => Ok(Some(file)),
-        Err(error) if error.kind() == io::ErrorKind::OutOfMemory => Err(AllocError),
-        Err(_) => Ok(None),
+        Ok(None) => end(console, &unreadable(rt.alloc())),
+        Err(AllocError) => end(console, &failed(rt.alloc(), Fault::Memory, false)),
     }
 }
 
-/// Files that stay open until the program ends, one for each standard stream.
-#[derive(Drop)]
-struct Held<F>(Option<F>, Option<F>, Option<F>);
-
-/// Opens the null device once for each standard stream. An opened file gets the lowest free number, so these files take the numbers of closed
-/// streams, and no capture receives what is printed or reported.
-fn fill_streams<R: Files>(rt: &R) -> Result<Held<R::File>, AllocError> {
-    Ok(Held(open_nothing(rt)?, open_nothing(rt)?, open_nothing(rt)?))
+/// Opens the null device for reading once for each standard stream, if there is one: a write to it fails. An opened file gets the lowest free number,
+/// so these files take the numbers of closed streams, and no capture receives what is printed or reported while they are held.
+fn fill_streams<R: Files>(rt: &R, held: &mut Vec<R::File>) -> Result<(), AllocError> {
+    for _ in 0..3 {
+        match fs::open(rt, "/dev/null") {
+            Ok(file) => held.push(file)?,
+            Err(error) if error.kind() == io::ErrorKind::OutOfMemory => return Err(AllocError),
+            Err(_) => {}
+        }
+    }
+    Ok(())
 }
 
 /// Runs the command of the host's command line over the host's files, with these programs compiled, and returns the status.
@@ -199,11 +203,9 @@ fn run_with<K: CompiledPrograms, R: Env + AllocGlobal + Files + Print + Eprint>(
     reports_interpreted: bool,
 ) -> u8 {
     let mut console = Console::new(io::writer(rt), io::writer(&streams.error));
-    let Ok(_streams) = fill_streams(rt) else {
-        return end(&mut console, &failed(rt.alloc(), Fault::Memory, false));
-    };
-    match run_words::<K, R, _, _>(rt, streams, reports_interpreted, &mut console) {
-        Ok(status) => status,
+    let mut held = Vec::new(rt.alloc());
+    match fill_streams(rt, &mut held) {
+        Ok(()) => run_words::<K, R, _, _>(rt, streams, reports_interpreted, &mut console),
         Err(AllocError) => end(&mut console, &failed(rt.alloc(), Fault::Memory, false)),
     }
 }

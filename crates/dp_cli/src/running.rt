@@ -255,13 +255,17 @@ fn run_ready<K: CompiledPrograms, R: Files>(
     ensures { EndsOver R.File.remaining (found_of request.now.words.now) pipeline pattern.items given.now.inputs.items given.now.outputs.items result }
 {
     let (rt, alloc) = (request.rt, request.alloc);
+    let (is_progress, is_unbuffered) = (request.flag("progress"), request.flag("unbuffered"));
+    let buffer = if is_unbuffered { UNBUFFERED } else { BUFFER };
     let Ok(names) = names_of(alloc, &pipeline, given) else {
         return Err(request.without_memory());
     };
-    let mut watcher = request.made(watcher_of(request, &pipeline, subject, sources))?;
-    let reads = request.made(reads_of(request, sources, file))?;
-    let (is_progress, is_unbuffered) = (request.flag("progress"), request.flag("unbuffered"));
-    let buffer = if is_unbuffered { UNBUFFERED } else { BUFFER };
+    let Ok(reads) = reads_of(request, sources, file) else {
+        return Err(request.without_memory());
+    };
+    let Ok(mut watcher) = watcher_of(request, &pipeline, subject, sources) else {
+        return Err(request.without_memory());
+    };
     let (mut inputs, mut outputs) = (Vec::new(alloc), Vec::new(alloc));
     let opened = open_captures(
         rt,

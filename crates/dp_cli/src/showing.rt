@@ -16,8 +16,8 @@ pub fn counted_in<R: Files>(
     name: &str,
     node: Entry,
 ) -> Result<Text, Reply> {
-    let (alloc, source) = (request.alloc, read_file(request, name)?);
-    let (mut out, mut to) = (Text::new(alloc), Document::new(alloc));
+    let source = read_file(request, name)?;
+    let mut to = Document::new(request.alloc);
     to.begin_object("");
     to.item("view", Item::Text("counted"));
     to.item("file", Item::Text(name));
@@ -26,6 +26,7 @@ pub fn counted_in<R: Files>(
         to.item("text", Item::Text(text));
     }
     to.end_object();
+    let mut out = Text::new(request.alloc);
     to.say_to(&mut out);
     Ok(out)
 }
@@ -70,8 +71,10 @@ fn write_node(
 ) -> Result<u8, PipeError> {
     let judged = judge(alloc, sources, subject.env(), asked)?;
     let cert = encode(alloc, &judged.cert)?;
-    let refused = judged.verdict.refused;
-    let label = refused.map_or(Item::Null, |at| Item::Number(u64::from(at.label)));
+    let (label, status) = match judged.verdict.refused {
+        Some(at) => (Item::Number(u64::from(at.label)), REFUSED),
+        None => (Item::Null, DONE),
+    };
     let text = str::from_utf8(judged.text).unwrap_or("");
     to.begin_object("");
     let rows = str::from_utf8(cert.as_slice()).unwrap_or("");
@@ -82,7 +85,7 @@ fn write_node(
     to.item("refused", label);
     to.shown("verdict", judged.verdict);
     to.end_object();
-    Ok(if refused.is_some() { REFUSED } else { DONE })
+    Ok(status)
 }
 
 /// Writes the nodes of a subject, or one of them. Returns the greatest status.
@@ -119,7 +122,7 @@ pub fn show<R>(
     {
         return no_node(alloc, node);
     }
-    let (mut reply, mut to) = (Reply::new(alloc), Document::new(alloc));
+    let mut to = Document::new(alloc);
     to.begin_object("");
     to.items(&[
         ("view", Item::Text("show")),
@@ -128,13 +131,15 @@ pub fn show<R>(
     ]);
     write_env(subject.env(), &mut to);
     to.begin_list("nodes");
-    match write_nodes(alloc, subject, sources, which, &mut to) {
-        Ok(status) => reply.status = status,
+    let status = match write_nodes(alloc, subject, sources, which, &mut to) {
+        Ok(status) => status,
         Err(error) => return unloaded(alloc, error, subject, sources, false),
-    }
+    };
     to.end_list();
     to.item("whole", Item::Bool(which.is_none()));
     to.end_object();
+    let mut reply = Reply::new(alloc);
+    reply.status = status;
     to.say_to(&mut reply.out);
     reply
 }

@@ -33,30 +33,44 @@ pub fn records_in(word: &str) -> Option<u32>
     }
 }
 
+/// The options that select which of the traced records are printed.
+const PICKS: [&str; 3] = ["instr", "match", "only"];
+
+/// Whether the words select which of the traced records are printed.
+fn is_picked<R>(request: &Request<'_, '_, R>) -> bool {
+    for name in PICKS {
+        if request.words.get_str(name).is_some() {
+            return true;
+        }
+    }
+    false
+}
+
 /// Which records the words select to be traced. If they select some to be printed, all are traced, and else 10.
 fn asked_in<R>(request: &Request<'_, '_, R>) -> Result<Traced, Reply>
     ensures { IfOk result (λ asked. asked.records ≤ MAX_RUN_TURNS) }
 {
     let records = records_in(request.word("records"));
     let port = port_in(request.word("port"));
-    for (name, is_read, form) in [
-        (
-            "records",
-            records.is_some(),
-            "not a number of records: from 1 to 134217728",
-        ),
-        ("port", port.is_some(), "not a port: a number from 0 to 7"),
-    ] {
-        if let Some(word) = request.words.get_str(name)
-            && !is_read
-        {
-            return Err(request.wrong(format_args!("error: '{word}' is {form}")));
-        }
+    if records.is_none()
+        && let Some(word) = request.words.get_str("records")
+    {
+        return Err(request.wrong(format_args!(
+            "error: '{word}' is not a number of records: from 1 to 134217728"
+        )));
     }
-    let is_picked = ["instr", "match", "only"]
-        .iter()
-        .any(|name| request.words.get_str(name).is_some());
-    let usual = if is_picked { MAX_RUN_TURNS as u32 } else { 10 };
+    if port.is_none()
+        && let Some(word) = request.words.get_str("port")
+    {
+        return Err(request.wrong(format_args!(
+            "error: '{word}' is not a port: a number from 0 to 7"
+        )));
+    }
+    let usual = if is_picked(request) {
+        MAX_RUN_TURNS as u32
+    } else {
+        10
+    };
     let records = records.unwrap_or(usual);
     Ok(Traced { records, port })
 }
@@ -83,7 +97,7 @@ fn words_of<R>(request: &Request<'_, '_, R>) -> Document {
     let mut to = Document::new(request.alloc);
     to.begin_object("");
     to.item("view", Item::Text("trace"));
-    for name in ["instr", "match", "only"] {
+    for name in PICKS {
         let given = match request.words.get_str(name) {
             Some(word) => Item::Text(word),
             None => Item::Null,
@@ -119,32 +133,40 @@ fn programs_of<R>(
     to
 }
 
-/// The reply to a traced run that was printed, and had the memory that it needs: its last document, and the lines of a fault or the place of a note.
+/// The reply to a traced run: its last document, and the lines of a fault or the place of a note; or what failed where it was printed.
 fn said_of<R>(
     request: &Request<'_, '_, R>,
     run: TracedRun,
     problem: Option<CaptureProblem<'_>>,
-) -> Reply {
-    let (mut reply, mut last) = (Reply::new(request.alloc), Document::new(request.alloc));
+) -> Result<Reply, Reply> {
+    match (run.printed, run.answer) {
+        (Printed::Failed, _) => return Err(unprinted(request.alloc)),
+        (Printed::NoMemory, _) | (_, Err(RunCause::Memory)) => {
+            return Err(request.without_memory());
+        }
+        _ => {}
+    }
+    let mut reply = Reply::new(request.alloc);
     reply.is_json = request.flag("json");
-    last.begin_object("");
-    last.item("view", Item::Text("traced"));
     match run.answer {
         Ok(()) => {
-            last.item("fault", Item::Null);
+            reply.out.say("{\"view\":\"traced\",\"fault\":null}\n");
             reply.err.say("{\"view\":\"selection\"}\n");
         }
         Err(cause) => {
+            reply.status = FAULT;
             say_stop(request.alloc, cause, problem, &mut reply.err);
             let line = reply.err.words().lines().next().unwrap_or("");
+            let mut last = Document::new(request.alloc);
+            last.begin_object("");
+            last.item("view", Item::Text("traced"));
             let status = Item::Number(u64::from(FAULT));
             last.object("fault", &[("status", status), ("text", Item::Text(line))]);
-            reply.status = FAULT;
+            last.end_object();
+            last.say_to(&mut reply.out);
         }
     }
-    last.end_object();
-    last.say_to(&mut reply.out);
-    reply
+    Ok(reply)
 }
 
 /// The captures that a trace reads: those of the pipeline, or the one for `dpv trace-one`.
@@ -181,6 +203,7 @@ fn trace_pipeline<R: Files, O: Write>(
     requires limit { which.records ≤ MAX_RUN_TURNS }
 {
     let (rt, alloc) = (request.rt, request.alloc);
+    let is_long = request.words.get_str("match").is_some();
     let Ok(names) = names_in(request, &pipeline) else {
         return Err(request.without_memory());
     };
@@ -189,16 +212,12 @@ fn trace_pipeline<R: Files, O: Write>(
         return Err(unopened(request, fault));
     }
     let ins = inputs.as_mut_slice();
-    let is_long = request.words.get_str("match").is_some();
     let run = trace_records::<Nothing, _, _>(alloc, pipeline, ins, pattern, which, is_long, out);
-    match (run.printed, run.answer) {
-        (Printed::Failed, _) => Err(unprinted(alloc)),
-        (Printed::NoMemory, _) | (_, Err(RunCause::Memory)) => Err(request.without_memory()),
-        (Printed::Whole, Err(cause)) => {
-            Ok(said_of(request, run, problem_of(names, ins, cause, None)))
-        }
-        (Printed::Whole, Ok(())) => Ok(said_of(request, run, None)),
-    }
+    let problem = match run.answer {
+        Ok(()) => None,
+        Err(cause) => problem_of(names, ins, cause, None),
+    };
+    said_of(request, run, problem)
 }
 
 /// Loads what a trace is about, or returns the reply if it is not loaded.
@@ -229,6 +248,29 @@ fn load_about<R>(
     }
 }
 
+/// Traces what was read: prints its programs at once, and then its records as they end.
+fn trace_read<R: Files, O: Write>(
+    request: &Request<'_, '_, R>,
+    about: &About<'_>,
+    sources: &Sources,
+    pattern: Vec<u64>,
+    which: Traced,
+    out: &mut O,
+) -> Result<Reply, Reply>
+    requires pattern { IsAscending 0 pattern.items }
+    requires limit { which.records ≤ MAX_RUN_TURNS }
+{
+    let pipeline = load_about(request, about, sources)?;
+    if let Some(port) = which.port
+        && usize::from(port) >= pipeline.ports()
+    {
+        return Err(no_node(request.alloc, Entry::Port(port)));
+    }
+    let programs = programs_of(request, &pipeline, about.subject(), sources);
+    print(request, programs, out)?;
+    trace_pipeline(request, pipeline, pattern, which, out)
+}
+
 /// `dpv trace FILE` and `dpv trace-one NODE CERT IN`: prints the words at once, the programs when they are loaded, and the records as they end; the
 /// reply has the rest.
 pub fn traced<R: Files, O: Write>(
@@ -239,15 +281,6 @@ pub fn traced<R: Files, O: Write>(
     print(request, words_of(request), out)?;
     let pattern = refused_in(request)?;
     let about = read_about(request)?;
-    let subject = about.subject();
-    let sources = read_nodes(request, subject, None, How::Given)?;
-    let pipeline = load_about(request, &about, &sources)?;
-    if let Some(port) = which.port
-        && usize::from(port) >= pipeline.ports()
-    {
-        return Err(no_node(request.alloc, Entry::Port(port)));
-    }
-    let programs = programs_of(request, &pipeline, subject, &sources);
-    print(request, programs, out)?;
-    trace_pipeline(request, pipeline, pattern, which, out)
+    let sources = read_nodes(request, about.subject(), None, How::Given)?;
+    trace_read(request, &about, &sources, pattern, which, out)
 }
