@@ -1,7 +1,6 @@
 -- How a reply ends.
-use Rattle.std.proofs.Common.{◌≡◌, ◌∙◌, sym, ◌⊎◌, inl, inr, ℕ, Bool, true, false, List, Option}
-use Rattle.dp_console.specs.declared.reply.Reply.{Reply}
-use Rattle.dp_console.specs.Replies.{EndsWith, Prints}
+use Rattle.std.proofs.Common.{◌≡◌, ◌∙◌, ◌⊎◌, inl, inr, ℕ, Bool, true, List, Option}
+use Rattle.dp_console.specs.{declared.reply.Reply.Reply, Replies.EndsWith, Replies.Prints}
 
 -- the status is 4, or 3 if it could not be reported
 pub without_memory : (reply : Reply) (f f' : Bool) (out out' err err' : Option (List ℕ)) (s : ℕ) → reply.status ≡ 4

@@ -1,2 +1,3 @@
 mod Endings
+mod Entering
 mod Sums

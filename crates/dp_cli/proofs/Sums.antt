@@ -1,9 +1,8 @@
 -- The parts add up to what an engine needs.
-use Rattle.std.proofs.Common.{◌≡◌, ℕ, ◌+◌, List, [], ◌∷◌, map, refl, ap, ◌∙◌, sym, arith}
+use Rattle.std.proofs.Common.{◌≡◌, ℕ, ◌+◌, List, [], ◌∷◌, map, refl, ap, ◌∙◌, sym}
 use Rattle.dp_model.specs.Environments.{Environment}
-use Rattle.dp_engine.specs.Needs.{ring_bytes, pool_bytes, total, ring_counts, list_counts, bytes_needed}
-use Rattle.dp_cli.specs.declared.sizes.Sizes.{Sizes}
-use Rattle.dp_cli.specs.Sizes.{AreSizes, pool_size, sum_of}
+use Rattle.dp_engine.specs.Needs.{ring_bytes, pool_bytes, total, ring_counts, bytes_needed}
+use Rattle.dp_cli.specs.{declared.sizes.Sizes.Sizes, Sizes.AreSizes, Sizes.pool_size, Sizes.sum_of}
 
 -- the sum over what a function makes of a list
 total-map : {X Y : Type 0} (f : Y → ℕ) (h : X → Y) (xs : List X) → total f (map h xs) ≡ total (λ x. f (h x)) xs

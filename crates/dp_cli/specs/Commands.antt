@@ -1,14 +1,15 @@
 -- What a command did, by its words: it was done, or it stopped where its first fault is, and not with status 0.
 use Rattle.std.specs.Prelude.{◌≡◌, ◌⊎◌, ℕ, Bool, true, false, List, [], Option, Some, None, Result, Ok, Err, IfOk, IfErr, codes, length}
 use Rattle.std.specs.Prelude.{MatchOption, MatchResult}
-use Rattle.clap.specs.declared.{error.ErrorKind.ErrorKind, parser.matches.Found.Found}
-use Rattle.clap.specs.declared.error.ErrorKind.TheVariants.{DisplayHelp, DisplayVersion}
+use Rattle.clap.specs.declared.{error.ErrorKind.ErrorKind, parser.matches.ArgMatches.ArgMatches, parser.matches.Found.Found}
+use Rattle.clap.specs.declared.error.ErrorKind.TheVariants.{DisplayHelp, DisplayVersion, OutOfMemory}
+use Rattle.clap.specs.Words.{App, HasMatchesOf, Row, Text, rows_of, subcommand_rows_of, takes}
 use Rattle.dp_captures.specs.{Words.missing, declared.words.Replaced.Replaced}
 use Rattle.dp_cert.specs.Spelling.{Certificate}
 use Rattle.dp_check.specs.Faults.{IsWith}
 use Rattle.dp_console.specs.{Replies.EndsWith, declared.reply.Reply.Reply}
 use Rattle.dp_model.specs.{Environments.Environment, declared.env.Entry.Entry, declared.env.Entry.TheVariants.Port}
-use Rattle.dp_load.specs.declared.{error.PipeError.PipeError, nodes.How.How, single.SingleFiles.SingleFiles}
+use Rattle.dp_load.specs.declared.{error.PipeError.PipeError, single.SingleFiles.SingleFiles}
 use Rattle.dp_load.specs.declared.nodes.How.TheVariants as how
 use Rattle.dp_load.specs.{Files.FileMap, Loads.IsLoadedFrom, Loads.IsUnloaded, Pipelines.Plan, Singles.IsSinglePlan}
 use Rattle.dp_sources.specs.{Subjects.one_port, declared.subject.TheConstants.ONE_REGION}
@@ -113,8 +114,36 @@ pub record EndsCommand {F : Type 0} (remaining : F → Option (List ℕ)) (name 
   pub answers : Answers remaining name found reply
   pub ends : EndsWith (reply_of reply) failed failed' out out' err err' status
 
--- How the program ends at words that are no command's: with 0 for help or the version that was asked for, and else with 2.
+-- The command of this name, with words in which these rows were found, ended so; of a trace that is tested. Without a command the status is 2.
+abbrev pub EndsEntered : {F : Type 0} → (F → Option (List ℕ)) → Option (Text × List Row) → Bool → Bool → Option (List ℕ) → Option (List ℕ)
+    → Option (List ℕ) → Option (List ℕ) → ℕ → Type 0
+EndsEntered remaining None failed failed' out out' err err' status = status ≡ 2
+EndsEntered remaining (Some entered) failed failed' out out' err err' status =
+    (found : Found) × (entered.1 ≡ rows_of found) × ((entered.0 ≡ codes "trace" → ⊥) → (entered.0 ≡ codes "trace-one" → ⊥)
+    → EndsCommand remaining entered.0 found failed failed' out out' err err' status)
+
+-- words in which these matches were found by the commands of the program, and it ended with the command that they name
+pub record EndsParsed {F : Type 0} (remaining : F → Option (List ℕ)) (app : App) (words : List Text) (failed failed' : Bool)
+    (out out' err err' : Option (List ℕ)) (status : ℕ) : Type 0 where
+  pub matches : ArgMatches
+  pub parsed : HasMatchesOf app words matches
+  pub ends : EndsEntered remaining (subcommand_rows_of matches) failed failed' out out' err err' status
+
+-- How the program ends at words that are no command's: with 0 for help or the version that was asked for, and else with 2; with 4 for lack of memory.
 abbrev pub EndsHelped : ErrorKind → ℕ → Type 0
 EndsHelped DisplayHelp status = status ≡ 0
 EndsHelped DisplayVersion status = status ≡ 0
+EndsHelped OutOfMemory status = status ≡ 4
 EndsHelped kind status = status ≡ 2
+
+-- these words are not run: they are no command's, or memory was refused; 3 if that could not be said
+pub record EndsWrong (app : App) (words : List Text) (status : ℕ) : Type 0 where
+  pub kind : ErrorKind
+  pub refused : takes app words ≡ true → kind ≡ OutOfMemory
+  pub ends : EndsHelped kind status ⊎ (status ≡ 3)
+
+-- how the program ends with these words of the command line
+abbrev pub EndsGiven : {F : Type 0} → (F → Option (List ℕ)) → App → List Text → Bool → Bool → Option (List ℕ) → Option (List ℕ) → Option (List ℕ)
+    → Option (List ℕ) → ℕ → Type 0
+EndsGiven remaining app words failed failed' out out' err err' status =
+    EndsParsed remaining app words failed failed' out out' err err' status ⊎ EndsWrong app words status

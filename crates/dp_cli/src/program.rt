@@ -1,17 +1,17 @@
 //! The program `dpv`: finds the command, runs it, and returns the exit status.
 
-ghost use Rattle.std.specs.Prelude.{◌≡◌, ◌⊎◌, codes};
+ghost use Rattle.std.specs.Prelude.{◌≡◌, ◌⊎◌, codes, map, string_bytes};
 ghost use Rattle.clap.specs.Matches.{found_of};
-ghost use Rattle.clap.specs.Words.{kind_of};
+ghost use Rattle.clap.specs.Words.{app_of, kind_of, subcommand_rows_of};
 ghost use Rattle.dp_console.specs.Replies.{EndsWith};
 ghost use Rattle.dp_cli.specs.Commands as spec;
-ghost use Rattle.dp_cli.specs.Commands.{Answers, EndsCommand, EndsHelped};
+ghost use Rattle.dp_cli.specs.Commands.{Answers, EndsCommand, EndsEntered, EndsGiven, EndsHelped};
 
 use crate::judging::{checked, explained, inferred, inferred_one, shown};
 use crate::running::{run_file, run_filter, run_one};
 use crate::tracing::{UNWRITTEN, traced};
-use clap::ArgMatches;
 use clap::error::ErrorKind;
+use clap::{ArgMatches, Command};
 use dp_captures::Streams;
 use dp_console::{Console, DONE, FAULT, Reply, USAGE};
 use dp_engine::{CompiledPrograms, Nothing};
@@ -45,7 +45,7 @@ fn wrong_words<R: Print + Eprint, O: Write, E: Write>(
     error: &clap::Error,
     console: &mut Console<O, E>,
 ) -> u8
-    ensures { EndsHelped (kind_of error.now) result ⊎ (result ≡ FAULT) ⊎ (result ≡ 4) }
+    ensures { EndsHelped (kind_of error.now) result ⊎ (result ≡ FAULT) }
 {
     if error.kind() == ErrorKind::OutOfMemory {
         return end(console, &failed(alloc, Fault::Memory, false));
@@ -119,35 +119,59 @@ fn run_command<K: CompiledPrograms, R: Files, O: Write, E: Write>(
     }
 }
 
-/// Reads these words, of which the first is the name of the program.
-fn parsed<'w>(alloc: Global, words: &'w [String]) -> Result<ArgMatches<'w>, clap::Error> {
-    // Usage texts use this name, whatever the program's file is called.
-    command(alloc)?.bin_name("dpv")?.try_get_matches_from(words)
-}
-
-/// Runs the command that these words name, of which the first is the name of the program, and returns the status.
-fn run_given<K: CompiledPrograms, R: AllocGlobal + Files + Print + Eprint, O: Write, E: Write>(
+/// Runs the command that was found in the words of the command line, and returns the status.
+fn run_matches<K: CompiledPrograms, R: AllocGlobal + Files, O: Write, E: Write>(
     rt: &R,
-    words: &[String],
+    matches: &ArgMatches<'_>,
     streams: Streams,
     reports_interpreted: bool,
     console: &mut Console<O, E>,
-) -> u8 {
-    let alloc = rt.alloc();
-    let matches = match parsed(alloc, words) {
-        Ok(matches) => matches,
-        Err(error) => return wrong_words(rt, alloc, &error, console),
+) -> u8
+    ensures { EndsEntered R.File.remaining (subcommand_rows_of matches.now) console.old.has_failed console.new.has_failed (O.contents console.old.out)
+        (O.contents console.new.out) (E.contents console.old.err) (E.contents console.new.err) result }
+{
+    let Some((name, words)) = matches.subcommand() else {
+        let _reported = console.report_line("error: there is no command");
+        return USAGE;
     };
-    let (name, words) = matches.subcommand().unwrap_or(("", &matches));
     let request = Request {
         rt,
-        alloc,
+        alloc: rt.alloc(),
         streams,
         reports_interpreted,
         name,
         words,
     };
     run_command::<K, R, O, E>(&request, console)
+}
+
+/// Runs the command that these words name among those of `dpv`, and returns the status. The first word is the name of the program.
+fn run_given<'w, K: CompiledPrograms, R: AllocGlobal + Files + Print + Eprint, O: Write, E: Write>(
+    rt: &R,
+    dpv: Command<'w>,
+    words: &'w [String],
+    streams: Streams,
+    reports_interpreted: bool,
+    console: &mut Console<O, E>,
+) -> u8
+    ensures { EndsGiven R.File.remaining (app_of dpv.entry) (map string_bytes words.now) console.old.has_failed console.new.has_failed
+        (O.contents console.old.out) (O.contents console.new.out) (E.contents console.old.err) (E.contents console.new.err) result }
+{
+    match dpv.try_get_matches_from(words) {
+        Ok(matches) => run_matches::<K, R, O, E>(
+            rt,
+            &matches,
+            streams,
+            reports_interpreted,
+            console,
+        ),
+        Err(error) => wrong_words(rt, rt.alloc(), &error, console),
+    }
+}
+
+/// The commands of `dpv`. Usage texts use this name, whatever the program's file is called.
+fn commands<'w>(alloc: Global) -> Result<Command<'w>, AllocError> {
+    command(alloc)?.bin_name("dpv")
 }
 
 /// The words of the command line, if all are UTF-8.
@@ -174,11 +198,16 @@ fn run_words<
     O: Write,
     E: Write,
 >(rt: &R, streams: Streams, reports_interpreted: bool, console: &mut Console<O, E>) -> u8 {
-    match words_in(rt) {
-        Ok(Some(words)) => {
-            run_given::<K, R, O, E>(rt, words.as_slice(), streams, reports_interpreted, console)
+    let given = match words_in(rt) {
+        Ok(Some(words)) => words,
+        Ok(None) => return end(console, &unreadable(rt.alloc())),
+        Err(AllocError) => return end(console, &failed(rt.alloc(), Fault::Memory, false)),
+    };
+    match commands(rt.alloc()) {
+        Ok(dpv) => {
+            let words = given.as_slice();
+            run_given::<K, R, O, E>(rt, dpv, words, streams, reports_interpreted, console)
         }
-        Ok(None) => end(console, &unreadable(rt.alloc())),
         Err(AllocError) => end(console, &failed(rt.alloc(), Fault::Memory, false)),
     }
 }

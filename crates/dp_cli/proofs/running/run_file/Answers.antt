@@ -3,20 +3,9 @@ use Rattle.std.proofs.Common.{inl, inr}
 use Rattle.dp_cli.proofs.running.run_file.Goals as goal
 
 pub returns-in-Ok : goal.returns-in-Ok
-returns-in-Ok g c = inr (
-  c.in_ok-pattern.pattern.items,
-  c.in_ok-given.given.inputs.items,
-  c.in_ok-given.given.outputs.items,
-  (c.in_ok-pattern.ensures.calls, c.in_ok-given.ensures.given),
-  inr (c.in-Ok.loaded.pipeline, c.in-Ok.ensures.loaded, c.run_loaded.ensures),
-)
+returns-in-Ok g c = inr (_, _, _, (c.in_ok-pattern.ensures.calls, c.in_ok-given.ensures.given), inr (_, c.in-Ok.ensures.loaded, c.run_loaded.ensures))
 
 -- its words are right, and its pipeline is not loaded
 pub returns-in-Err : goal.returns-in-Err
-returns-in-Err g c = inr (
-  c.in_ok-pattern.pattern.items,
-  c.in_ok-given.given.inputs.items,
-  c.in_ok-given.given.outputs.items,
-  (c.in_ok-pattern.ensures.calls, c.in_ok-given.ensures.given),
-  inl (c.in-Err.reply, c.in-Err.ensures.stops, rw (c.take_stdout.ensures) at c.aside.ensures),
-)
+returns-in-Err g c =
+    inr (_, _, _, (c.in_ok-pattern.ensures.calls, c.in_ok-given.ensures.given), inl (_, c.in-Err.ensures.stops, rw (c.take_stdout.ensures) at c.aside.ensures))

@@ -5,8 +5,8 @@ use Rattle.dp_cli.proofs.running.run_single.Goals as goal
 
 pub returns : goal.returns
 returns g c = inr (
-  c.in-Ok.given.inputs.items,
-  c.in-Ok.given.outputs.items,
+  _,
+  _,
   (c.in-Ok.ensures.inputs, c.in-Ok.ensures.outputs),
   inr (
     files_of c.in_ok-sources.sources,
@@ -19,8 +19,8 @@ returns g c = inr (
 -- the program is not loaded
 pub returns-in-Err : goal.returns-in-Err
 returns-in-Err g c = inr (
-  c.in-Ok.given.inputs.items,
-  c.in-Ok.given.outputs.items,
+  _,
+  _,
   (c.in-Ok.ensures.inputs, c.in-Ok.ensures.outputs),
   inl (
     c.unloaded-reply.result,
