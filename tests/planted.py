@@ -18,7 +18,7 @@ Where nothing says which, all are tried.
   --must-fail  those of must-fail/ as well, which `rt ci` tries each time
   --gate       what the gate tries at this commit, at most 70: all of planted/always; then part N of 48, where N is the number of
                changes so far by 48, or the day where there is no such history; then edits that are new since the commit 8
-               changes back, then those of functions whose text has changed since
+               changes back, then those of functions whose text has changed since, and last the other half of part N of 24
   --early P    while `rt ci` runs, with the lowest priority: those of a crate once the file P names all crates below it, the lowest crates first
   --done D     leaves out those that the file D names, and adds to it each that is refused
   --count      tries none: writes how many each crate has into the table of docs/developing/notes/wrong_bodies.md
@@ -594,6 +594,7 @@ def of_the_gate(edits: list[Edit]) -> tuple[list[Edit], int]:
         lambda it: it.turn(PARTS) == turn,
         lambda it: it.name in news,
         lambda it: bool(ends_of(it) & changed.get(it.crate.name, set())),
+        lambda it: it.turn(PARTS // 2) == turn % (PARTS // 2),
     )
     ranked = [(next((k for k, is_so in enumerate(ranks) if is_so(it)), len(ranks)), it) for it in edits]
     asked = [it for rank, it in sorted(ranked, key=lambda pair: pair[0]) if rank < len(ranks)]
