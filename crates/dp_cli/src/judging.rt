@@ -96,8 +96,11 @@ fn which_in<R>(request: &Request<'_, '_, R>) -> Result<Option<Entry>, Reply> {
     }
 }
 
-/// Explains or shows a node's program, or all of a pipeline.
-fn told<R: Files>(request: &Request<'_, '_, R>, which: Option<Entry>) -> Result<Reply, Reply> {
+/// What `explain` or `show` says of a node's program, or of all of a pipeline.
+fn reply_about<R: Files>(
+    request: &Request<'_, '_, R>,
+    which: Option<Entry>,
+) -> Result<Reply, Reply> {
     let about = read_about(request)?;
     let subject = about.subject();
     let sources = read_nodes(request, subject, which, How::Given)?;
@@ -113,7 +116,7 @@ fn told<R: Files>(request: &Request<'_, '_, R>, which: Option<Entry>) -> Result<
 /// `dpv explain FILE [WHICH]` and `dpv explain-one NODE [CERT]`.
 pub fn explained<R: Files>(request: &Request<'_, '_, R>) -> Result<Reply, Reply> {
     let which = which_in(request)?;
-    told(request, which)
+    reply_about(request, which)
 }
 
 /// What is wrong with the words of `show`, if anything is.
@@ -137,7 +140,7 @@ pub fn shown<R: Files>(request: &Request<'_, '_, R>) -> Result<Reply, Reply> {
         return Err(request.wrong("error: --calls is for a picture: add --dot, or leave it out"));
     }
     if request.words.get_str("NODE").is_some() {
-        return told(request, Some(Entry::Port(0)));
+        return reply_about(request, Some(Entry::Port(0)));
     }
     let (which, file) = (which_in(request)?, request.word("FILE"));
     if which.is_none() && file.ends_with(".dpv") {
@@ -149,10 +152,10 @@ pub fn shown<R: Files>(request: &Request<'_, '_, R>) -> Result<Reply, Reply> {
         return Err(request.wrong(problem));
     }
     let (Some(node), Some(file)) = (which, counts) else {
-        return told(request, which);
+        return reply_about(request, which);
     };
     let counted = counted_in(request, file, node)?;
-    match told(request, which) {
+    match reply_about(request, which) {
         Ok(reply) | Err(reply) => Ok(Reply {
             out: both(counted, &reply.out),
             ..reply
